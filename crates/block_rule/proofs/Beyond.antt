@@ -9,7 +9,7 @@ use Rattle.gas_terms.specs.Gas.{site_of, is_walled, streamed}
 use Rattle.gas_terms.specs.Block.{other_coordinate}
 use Rattle.gas_terms.proofs.Cells.{has-cells_where}
 use Rattle.gas_terms.proofs.Blocks.{cell_streamed, cell_walled}
-use Rattle.block_rule.specs.Around.{either, is_walled_at, turned}
+use Rattle.block_rule.specs.Around.{either, is_walled_at, turned_window}
 use Rattle.block_rule.specs.Cell.{partner}
 use Rattle.block_rule.specs.Windows.{IsReached, IsView, IsTilePlace, IsAround}
 use Rattle.block_rule.proofs.Around.{walled_by_cells, turned_by_cells}
@@ -71,7 +71,7 @@ sides_walled : (cells : Cells) (w h v g column row : ℕ) → w ≡ v → h ≡ 
 sides_walled cells w h v g column row e f = ap₂ (λ m n. is_walled cells (site_of 1 m n column row)) e f
 
 turned_around : (near near_solid : ℕ → ℕ → Bool) (particles solid : Cells) (x0 y0 x y column row : ℕ) → HasEvenSides particles.width particles.height → HasSidesOf solid particles → 0 < particles.width → 0 < particles.height → IsView 1 near particles x0 y0 → IsView 1 near_solid solid x0 y0 → x0 % 2 ≡ 0 → y0 % 2 ≡ 0
-    → x ≤ 64 → y ≤ 64 → IsAround particles.width (x0 + x) column → IsAround particles.height (y0 + y) row → turned 1 near near_solid x y ≡ plane.has (streamed 1 particles solid) column row
+    → x ≤ 64 → y ≤ 64 → IsAround particles.width (x0 + x) column → IsAround particles.height (y0 + y) row → turned_window 1 near near_solid x y ≡ plane.has (streamed 1 particles solid) column row
 turned_around near near_solid particles solid x0 y0 x y column row even sides wide high view solid_view even_x even_y in_row in_column around_x around_y =
     let w = particles.width in
     let h = particles.height in
@@ -88,7 +88,7 @@ turned_around near near_solid particles solid x0 y0 x y column row even sides wi
 
 -- by the laws of gas_terms
 pub reach_turned : (particles walls obstacles : Cells) (x0 y0 : ℕ) (near near_walls near_obstacles : ℕ → ℕ → Bool) → IsTilePlace particles walls obstacles x0 y0 → IsView 1 near particles x0 y0 → IsView 1 near_walls walls x0 y0 → IsView 1 near_obstacles obstacles x0 y0
-    → (x y column row : ℕ) → x ≤ 64 → y ≤ 64 → IsAround particles.width (x0 + x) column → IsAround particles.height (y0 + y) row → turned 1 near (either near_walls near_obstacles) x y ≡ plane.has (streamed 1 particles (joined walls obstacles)) column row
+    → (x y column row : ℕ) → x ≤ 64 → y ≤ 64 → IsAround particles.width (x0 + x) column → IsAround particles.height (y0 + y) row → turned_window 1 near (either near_walls near_obstacles) x y ≡ plane.has (streamed 1 particles (joined walls obstacles)) column row
 reach_turned particles walls obstacles x0 y0 near near_walls near_obstacles place view walls_view obstacles_view x y column row in_row in_column around_x around_y =
     let right = place.right in
     let bottom = place.bottom in
@@ -100,7 +100,7 @@ reach_turned particles walls obstacles x0 y0 near near_walls near_obstacles plac
 
 -- and with one set
 pub reach_set : (particles solid : Cells) (x0 y0 : ℕ) (near near_solid : ℕ → ℕ → Bool) → IsTilePlace particles solid solid x0 y0 → IsView 1 near particles x0 y0 → IsView 1 near_solid solid x0 y0
-    → (x y column row : ℕ) → x ≤ 64 → y ≤ 64 → IsAround particles.width (x0 + x) column → IsAround particles.height (y0 + y) row → turned 1 near near_solid x y ≡ plane.has (streamed 1 particles solid) column row
+    → (x y column row : ℕ) → x ≤ 64 → y ≤ 64 → IsAround particles.width (x0 + x) column → IsAround particles.height (y0 + y) row → turned_window 1 near near_solid x y ≡ plane.has (streamed 1 particles solid) column row
 reach_set particles solid x0 y0 near near_solid place view solid_view x y column row in_row in_column around_x around_y =
     let right = place.right in
     let bottom = place.bottom in

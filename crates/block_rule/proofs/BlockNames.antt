@@ -200,8 +200,8 @@ module _ (from end : ℕ) (before now : ℕ → ℕ → Bool) (differ : DifferIn
   start_within p x = elim (cases_eq ((x + p) % 2) 0) [ inl e ↦ rw (eq-eqb ((x + p) % 2) 0 e) (omega arith, omega arith) | inr e ↦ rw (ne_eqb ((x + p) % 2) 0 e) (omega arith, omega arith) ]
 
   -- the cells of two rows of the tile
-  pub pair_same : (p x y : ℕ) → x < 64 → y < 64 → (y / 2 < from - 1) ⊎ (end ≤ y / 2) → is_walled_at p before x y ≡ is_walled_at p now x y
-  pair_same p x y h k far =
+  pub row_pair_same : (p x y : ℕ) → x < 64 → y < 64 → (y / 2 < from - 1) ⊎ (end ≤ y / 2) → is_walled_at p before x y ≡ is_walled_at p now x y
+  row_pair_same p x y h k far =
       let across = start_within p x in
       let down = start_within p y in
       block_same (block_start p x) (block_start p y) (omega (arith, across.1, h)) (omega (arith, down.1, k)) (elim far [ inl below ↦ inl (omega (arith, below, down.1)) | inr above ↦ inr (omega (arith, above, down.0)) ])
@@ -235,7 +235,7 @@ module _ (from end : ℕ) (before now : ℕ → ℕ → Bool) (differ : DifferIn
       same : (j < from - 1) ⊎ (end ≤ j) → (j < from - 1) ⊎ (n ≤ j) → bit (get_or new j 0) i ≡ is_walled_at 0 now (2 * i) (2 * j)
       same far there =
           let half : 2 * j / 2 ≡ j = omega arith in
-          ap (λ w. bit w i) (kept.rest j there) ∙ (are i j h k ∙ pair_same 0 (2 * i) (2 * j) (omega arith) (omega arith) (rw half far))
+          ap (λ w. bit w i) (kept.rest j there) ∙ (are i j h k ∙ row_pair_same 0 (2 * i) (2 * j) (omega arith) (omega arith) (rw half far))
 
   pub rows_renewed : (b : TileBlocks) (rows told n : ℕ) → ((m : ℕ) → m < 32 → n ≤ m → end ≤ m) → ((k : ℕ) → from - 1 ≤ k → k < n → k < 32 → bit told k ≡ false → any_of b k ≡ 0) → ((k : ℕ) → (k < from - 1) ⊎ (n ≤ k) → k < 32 → bit told k ≡ bit rows k)
       → AreEvenBlocksOf b.even (is_walled_at 0 now) → AreOddBlocksOf b.odd (is_walled_at 1 now) → ((p : ℕ) → p < 2 → TellsRows rows (λ x y. is_walled_at p before x y)) → (p : ℕ) → p < 2 → TellsRows told (λ x y. is_walled_at p now x y)
@@ -249,4 +249,4 @@ module _ (from end : ℕ) (before now : ℕ → ℕ → Bool) (differ : DifferIn
       ]
     where
       same : (y / 2 < from - 1) ⊎ (end ≤ y / 2) → (y / 2 < from - 1) ⊎ (n ≤ y / 2) → is_walled_at p now x y ≡ false
-      same far there = sym (pair_same p x y h k far) ∙ before_told p two x y h k (sym (kept (y / 2) there (omega arith)) ∙ e)
+      same far there = sym (row_pair_same p x y h k far) ∙ before_told p two x y h k (sym (kept (y / 2) there (omega arith)) ∙ e)

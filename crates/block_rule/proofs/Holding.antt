@@ -18,14 +18,14 @@ use Rattle.bit_tile.proofs.Classes.{IsClass}
 use Rattle.gas_terms.specs.declared.accounts.Pair.{Pair}
 use Rattle.block_rule.specs.Accounts.{if_counted, counted_of}
 use Rattle.block_rule.specs.declared.walled.Counted.{Counted}
-use Rattle.block_rule.specs.Around.{block_start, turned, none, is_walled_at, is_for_walls, twice_momentum, taken}
+use Rattle.block_rule.specs.Around.{block_start, turned_window, none, is_walled_at, is_for_walls, twice_momentum_in, taken_in_tile}
 use Rattle.block_rule.specs.Cell.{turned_cell, turned_at, made}
-use Rattle.block_rule.specs.Classes.{class, AreCounts}
+use Rattle.block_rule.specs.Classes.{class, AreClassCounts}
 use Rattle.block_rule.specs.Shown.{HasNoCell}
 use Rattle.block_rule.specs.declared.count.Classes.{Classes}
 use Rattle.block_rule.proofs.Around.{turned_by_cells}
 use Rattle.gas_terms.specs.declared.accounts.Took.{Took}
-use Rattle.block_rule.proofs.Took.{pair, twice_momentum-same, twice_momentum-none, pair_same, accounts_same, right_count, left_count, down_count, up_count}
+use Rattle.block_rule.proofs.Took.{pair, twice_momentum_in-same, twice_momentum_in-none, pair_same, accounts_same, right_count, left_count, down_count, up_count}
 
 -- how many of a row's cells are in places
 abbrev pub among : List ℕ → List ℕ → ℕ → ℕ
@@ -37,8 +37,8 @@ pub ones_among : (cells there : ℕ) (old places : List ℕ) (j : ℕ) → cells
 ones_among cells there old places j fits first second first_there second_there = grind (arith, ones_of_two, and_le_l, bit-and)
 
 -- those of two rows more
-pub rows_more : (old places : List ℕ) (n more j : ℕ) → n ≡ sum_below j (among old places) → more ≡ among old places j + among old places (j + 1) → n + more ≡ sum_below (j + 1 + 1) (among old places)
-rows_more old places n more j so_far here = grind (arith, sum_below-more)
+pub counted_rows_more : (old places : List ℕ) (n more j : ℕ) → n ≡ sum_below j (among old places) → more ≡ among old places j + among old places (j + 1) → n + more ≡ sum_below (j + 1 + 1) (among old places)
+counted_rows_more old places n more j so_far here = grind (arith, sum_below-more)
 
 -- rows of which a word tells nothing
 pub not_told : (rows from n : ℕ) → rows / 2 ^ from % 2 ^ n ≡ 0 → (j : ℕ) → from ≤ j → j < from + n → bit rows j ≡ false
@@ -62,7 +62,7 @@ small_again v r l r_small l_small is = rw is (omega (arith, ints))
 difference_of : (r s m n : ℕ) → r ≡ m → s ≡ n → pos (2 * r) -ℤ pos (2 * s) ≡ pos (2 * m) -ℤ pos (2 * n)
 difference_of r s m n e f = rw (e, f)
 
-module _ (c : Classes) (cells : ℕ → ℕ → Bool) (is : AreCounts c cells) (p : ℕ) (two : p < 2) where
+module _ (c : Classes) (cells : ℕ → ℕ → Bool) (is : AreClassCounts c cells) (p : ℕ) (two : p < 2) where
   -- the particles of columns and rows of one parity
   abbrev columns : ℕ → ℕ
   columns i = class cells i 0 + class cells i 1
@@ -71,29 +71,29 @@ module _ (c : Classes) (cells : ℕ → ℕ → Bool) (is : AreCounts c cells) (
   rows j = class cells 0 j + class cells 1 j
 
   pub momentum_is : (right left down up : ℕ) → right ≡ columns p → left ≡ columns (1 - p) → down ≡ rows p → up ≡ rows (1 - p) →
-      (x y : ℤ) → x ≡ pos (2 * right) -ℤ pos (2 * left) → y ≡ pos (2 * down) -ℤ pos (2 * up) → (let r : Pair = record { x = x; y = y } in r) ≡ twice_momentum p cells
+      (x y : ℤ) → x ≡ pos (2 * right) -ℤ pos (2 * left) → y ≡ pos (2 * down) -ℤ pos (2 * up) → (let r : Pair = record { x = x; y = y } in r) ≡ twice_momentum_in p cells
   momentum_is right left down up is_right is_left is_down is_up x y x_is y_is =
       pair_same _ _ _ _
       (x_is ∙ difference_of right left _ _ (is_right ∙ sym (right_count cells p two)) (is_left ∙ sym (left_count cells p two)))
       (y_is ∙ difference_of down up _ _ (is_down ∙ sym (down_count cells p two)) (is_up ∙ sym (up_count cells p two)))
 
 -- a tile without walled blocks
-pub turned_of_free : (p : ℕ) (out : Tile) (window solid : ℕ → ℕ → Bool) → HasNoCell (is_walled_at p solid) → HasCells out (made (turned_cell false) p window) → HasCells out (turned p window solid)
+pub turned_of_free : (p : ℕ) (out : Tile) (window solid : ℕ → ℕ → Bool) → HasNoCell (is_walled_at p solid) → HasCells out (made (turned_cell false) p window) → HasCells out (turned_window p window solid)
 turned_of_free p out window solid none is x y h k =
     is x y h k ∙ (ap (λ w. turned_at p window w x y) (sym (none x y h k)) ∙ sym (turned_by_cells p window (is_walled_at p solid x y) x y))
 
 -- what is taken
-pub none_took : (p : ℕ) (tile : Tile) (test : ℕ → ℕ → Bool) → HasNoCell test → pair (pos 0) (pos 0) ≡ twice_momentum p (λ x y. has tile x y && test x y)
-none_took p tile test none = twice_momentum-none p _ (λ x y h k. and_right (has tile x y) (test x y) (none x y h k))
+pub none_took : (p : ℕ) (tile : Tile) (test : ℕ → ℕ → Bool) → HasNoCell test → pair (pos 0) (pos 0) ≡ twice_momentum_in p (λ x y. has tile x y && test x y)
+none_took p tile test none = twice_momentum_in-none p _ (λ x y h k. and_right (has tile x y) (test x y) (none x y h k))
 
 joined_tests : (t w o : Bool) → (t && (w && not o)) ≡ (t && w && not o)
 joined_tests t w o = grind arith
 
-pub both_took : (p : ℕ) (tile : Tile) (walled obstructed : ℕ → ℕ → Bool) (c : Counted) (a b : Pair) → a ≡ if_counted c.walls (twice_momentum p (λ x y. has tile x y && is_for_walls p walled obstructed x y))
-    → b ≡ if_counted c.obstacles (twice_momentum p (λ x y. has tile x y && is_walled_at p obstructed x y)) → (let r : Took = record { walls = a; obstacles = b } in r) ≡ counted_of c (taken p tile walled obstructed)
+pub both_took : (p : ℕ) (tile : Tile) (walled obstructed : ℕ → ℕ → Bool) (c : Counted) (a b : Pair) → a ≡ if_counted c.walls (twice_momentum_in p (λ x y. has tile x y && is_for_walls p walled obstructed x y))
+    → b ≡ if_counted c.obstacles (twice_momentum_in p (λ x y. has tile x y && is_walled_at p obstructed x y)) → (let r : Took = record { walls = a; obstacles = b } in r) ≡ counted_of c (taken_in_tile p tile walled obstructed)
 both_took p tile walled obstructed c a b of_walls of_obstacles =
     accounts_same _ _ _ _
-    (of_walls ∙ ap (if_counted c.walls) (twice_momentum-same p _ _ (λ x y h k. joined_tests (has tile x y) (is_walled_at p walled x y) (is_walled_at p obstructed x y))))
+    (of_walls ∙ ap (if_counted c.walls) (twice_momentum_in-same p _ _ (λ x y h k. joined_tests (has tile x y) (is_walled_at p walled x y) (is_walled_at p obstructed x y))))
     of_obstacles
 
 pub is_counted : (counted : Bool) (p q : Pair) → counted ≡ true → p ≡ q → p ≡ if_counted counted q
@@ -108,5 +108,5 @@ pub same_block : (x : ℕ) → block_start 0 (2 * (x / 2)) ≡ block_start 0 x
 same_block x = block_begins (2 * (x / 2)) ∙ (let e : 2 * (2 * (x / 2) / 2) + 1 ≡ 2 * (x / 2) + 1 = omega arith in e ∙ sym (block_begins x))
 
 -- a tile of which the rule spares walled blocks
-pub turned_of_spared : (window solid : ℕ → ℕ → Bool) (out : Tile) → HasCells out (λ x y. turned_at 0 window (is_walled_at 0 solid (2 * (x / 2)) (2 * (y / 2))) x y) → HasCells out (turned 0 window solid)
+pub turned_of_spared : (window solid : ℕ → ℕ → Bool) (out : Tile) → HasCells out (λ x y. turned_at 0 window (is_walled_at 0 solid (2 * (x / 2)) (2 * (y / 2))) x y) → HasCells out (turned_window 0 window solid)
 turned_of_spared window solid out is x y h k = grind (arith, same_block, turned_by_cells)

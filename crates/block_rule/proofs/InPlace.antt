@@ -6,7 +6,7 @@ use Rattle.bit_tile.specs.Tile.{has}
 use Rattle.bit_tile.specs.declared.Tile.{Tile}
 use Rattle.bit_tile.proofs.Bits.{bit-zero, get_or-replicate_zero}
 use Rattle.bit_tile.proofs.Classes.{in_even_even, in_odd_even, in_even_odd, in_odd_odd, row_even, row_odd, even_even_at, odd_even_at, even_odd_at, odd_odd_at}
-use Rattle.block_rule.specs.Around.{block_start, is_block_walled, is_walled_at, turned}
+use Rattle.block_rule.specs.Around.{block_start, is_block_walled, is_walled_at, turned_window}
 use Rattle.block_rule.specs.Cell.{partner, turned_cell}
 use Rattle.block_rule.specs.Rows.{IsMade, odd_row, eight_row, beside_right}
 use Rattle.block_rule.specs.InPlace.{ShowsBegun, NamesRow, IsRowTurned, IsLeaving, IsInnerSeen, IsSeamSeen, AreNamed, AreRowsSeen, AreCarried, AreEightCarried, AreOthersCarried, AreOthersKept, IsCarried, carried_row, HaveTurned, AreEndsKept, HasOtherCells}
@@ -40,7 +40,7 @@ second_placed i =
     record { begin = rw even refl; own = omega arith; far = rw even refl }
 
 -- what the collision makes of a corner
-turned_corner : (window solid : ℕ → ℕ → Bool) (x y bx by ox oy fx fy : ℕ) (w a b c d : Bool) → IsPlaced x bx ox fx → IsPlaced y by oy fy → w ≡ is_block_walled solid bx by → a ≡ window ox oy → b ≡ window fx oy → c ≡ window ox fy → d ≡ window fx fy → turned_cell w a b c d ≡ turned 1 window solid x y
+turned_corner : (window solid : ℕ → ℕ → Bool) (x y bx by ox oy fx fy : ℕ) (w a b c d : Bool) → IsPlaced x bx ox fx → IsPlaced y by oy fy → w ≡ is_block_walled solid bx by → a ≡ window ox oy → b ≡ window fx oy → c ≡ window ox fy → d ≡ window fx fy → turned_cell w a b c d ≡ turned_window 1 window solid x y
 turned_corner window solid x y bx by ox oy fx fy w a b c d column row is_w is_a is_b is_c is_d =
     ap (λ u. turned_cell u a b c d) (is_w ∙ sym (ap₂ (is_block_walled solid) column.begin row.begin))
     ∙ (cell_by (turned_cell (is_walled_at 1 solid x y)) a b c d _ _ _ _ (is_a ∙ sym (ap₂ window column.own row.own)) (is_b ∙ sym (ap₂ window column.far row.own)) (is_c ∙ sym (ap₂ window column.own row.far)) (is_d ∙ sym (ap₂ window column.far row.far))
@@ -54,16 +54,16 @@ module _ (window solid : ℕ → ℕ → Bool) (j : ℕ) (own : Blocks) (right :
   lower_shown : (i : ℕ) → i < 32 → bit lower i ≡ window (2 * i + 3) (2 * j + 3)
   lower_shown = next_shown window (2 * j + 3) own.lower_right right.lower lower s.lower_right s.right_lower is_lower
 
-  pub upper_left_turned : (i : ℕ) → i < 32 → bit made.upper_left i ≡ turned 1 window solid (2 * i + 1) (2 * j + 1)
+  pub upper_left_turned : (i : ℕ) → i < 32 → bit made.upper_left i ≡ turned_window 1 window solid (2 * i + 1) (2 * j + 1)
   upper_left_turned i h = is.upper_left i h ∙ turned_corner window solid (2 * i + 1) (2 * j + 1) _ _ _ _ _ _ _ _ _ _ _ (first_placed i) (first_placed j) (named i h) (sym (s.upper_left i h)) (upper_shown i h) (sym (s.lower_left i h)) (lower_shown i h)
 
-  pub upper_right_turned : (i : ℕ) → i < 32 → bit made.upper_right i ≡ turned 1 window solid (2 * i + 2) (2 * j + 1)
+  pub upper_right_turned : (i : ℕ) → i < 32 → bit made.upper_right i ≡ turned_window 1 window solid (2 * i + 2) (2 * j + 1)
   upper_right_turned i h = is.upper_right i h ∙ turned_corner window solid (2 * i + 2) (2 * j + 1) _ _ _ _ _ _ _ _ _ _ _ (second_placed i) (first_placed j) (named i h) (upper_shown i h) (sym (s.upper_left i h)) (lower_shown i h) (sym (s.lower_left i h))
 
-  pub lower_left_turned : (i : ℕ) → i < 32 → bit made.lower_left i ≡ turned 1 window solid (2 * i + 1) (2 * j + 2)
+  pub lower_left_turned : (i : ℕ) → i < 32 → bit made.lower_left i ≡ turned_window 1 window solid (2 * i + 1) (2 * j + 2)
   lower_left_turned i h = is.lower_left i h ∙ turned_corner window solid (2 * i + 1) (2 * j + 2) _ _ _ _ _ _ _ _ _ _ _ (first_placed i) (second_placed j) (named i h) (sym (s.lower_left i h)) (lower_shown i h) (sym (s.upper_left i h)) (upper_shown i h)
 
-  pub lower_right_turned : (i : ℕ) → i < 32 → bit made.lower_right i ≡ turned 1 window solid (2 * i + 2) (2 * j + 2)
+  pub lower_right_turned : (i : ℕ) → i < 32 → bit made.lower_right i ≡ turned_window 1 window solid (2 * i + 2) (2 * j + 2)
   lower_right_turned i h = is.lower_right i h ∙ turned_corner window solid (2 * i + 2) (2 * j + 2) _ _ _ _ _ _ _ _ _ _ _ (second_placed i) (second_placed j) (named i h) (lower_shown i h) (sym (s.lower_left i h)) (upper_shown i h) (sym (s.upper_left i h))
 
 -- right corners in their columns
@@ -116,8 +116,8 @@ leaving_kept column j now old e is = rw e is
 pub ends_left : (t old : Tile) (new : Blocks) (j : ℕ) → j < 31 → AreEndsKept old t → AreEndsKept old (row_written t j new)
 ends_left t old new j below are = grind (arith, get_or-set_other)
 
-pub row_named : (word begin : ℕ) (solid : ℕ → ℕ → Bool) (j : ℕ) → word ≡ begin → NamesRow begin solid j → NamesRow word solid j
-row_named word begin solid j e named = rw e named
+pub row_named_alike : (word begin : ℕ) (solid : ℕ → ℕ → Bool) (j : ℕ) → word ≡ begin → NamesRow begin solid j → NamesRow word solid j
+row_named_alike word begin solid j e named = rw e named
 
 -- rows of which a word tells that none of their blocks is walled
 pub rows_free : (set : SetBlocks) (from to : ℕ) (solid : ℕ → ℕ → Bool) → to < 32 → NamesBlocks set.rows set.blocks.now (walled_by solid) → ((j : ℕ) → from ≤ j → j < to → bit set.rows j ≡ false) → AreNamed from to (λ _. 0) solid

@@ -4,11 +4,11 @@ use Rattle.std.proofs.lemmas.Bool.{cases_eq, eq-eqb, ne_eqb}
 use Rattle.bit_tile.specs.Bit.{bit}
 use Rattle.bit_tile.specs.Tile.{has, HasCells}
 use Rattle.bit_tile.specs.declared.Tile.{Tile}
-use Rattle.block_rule.specs.Around.{block_start, either, is_block_walled, is_walled_at, turned}
+use Rattle.block_rule.specs.Around.{block_start, either, is_block_walled, is_walled_at, turned_window}
 use Rattle.block_rule.specs.Cell.{made, turned_cell}
 use Rattle.bit_tile.proofs.Bits.{bit-zero, bit-or}
 use Rattle.bit_tile.proofs.Classes.{IsClass, is_even_even, is_odd_even, is_even_odd, is_odd_odd}
-use Rattle.block_rule.specs.Classes.{AreCounts, particles_among}
+use Rattle.block_rule.specs.Classes.{AreClassCounts, particles_among}
 use Rattle.block_rule.specs.Shown.{HasNoCell, TellsRows}
 use Rattle.block_rule.proofs.Blank.{walled_either}
 use Rattle.block_rule.specs.NamedBlocks.{rule_among, AreMadeUpTo, NameBlocks, IsCollidedOdd, AreEvenBlocksOf, AreOddBlocksOf}
@@ -63,8 +63,8 @@ module _ (begins ends : ℕ → ℕ) (solid : ℕ → ℕ → Bool) (are : NameB
       → AreLower (λ i. rule_among solid (2 * i + 1) row) (λ i. rule_among solid (2 * i + 0) row) window y ll lr
   lower_named window k row y ll lr below e is = grind (arith, begin_at, odd_start, end_at, even_start)
 
-  pub row_named : (window : ℕ → ℕ → Bool) (j : ℕ) (new : Blocks) → j < 31 → IsCollidedOdd (begins (j + 1)) (ends (j + 1)) window (2 * j + 2) new → AreMadeOdd (rule_among solid) window j new
-  row_named window j new below is =
+  pub named_row_made : (window : ℕ → ℕ → Bool) (j : ℕ) (new : Blocks) → j < 31 → IsCollidedOdd (begins (j + 1)) (ends (j + 1)) window (2 * j + 2) new → AreMadeOdd (rule_among solid) window j new
+  named_row_made window j new below is =
       let first : block_start 1 (2 * j + 1) ≡ 2 * (j + 1) = odd_start j ∙ omega arith in
       let next : block_start 1 (2 * (j + 1) + 0) ≡ 2 * (j + 1) = even_start (j + 1) in
       record {
@@ -73,7 +73,7 @@ module _ (begins ends : ℕ → ℕ) (solid : ℕ → ℕ → Bool) (are : NameB
       }
 
 -- the tile's cells after these rules
-pub turned_of_rows : (window solid : ℕ → ℕ → Bool) (out : Tile) → HasCells out (λ x y. made (rule_among solid x y) 1 window x y) → HasCells out (turned 1 window solid)
+pub turned_of_rows : (window solid : ℕ → ℕ → Bool) (out : Tile) → HasCells out (λ x y. made (rule_among solid x y) 1 window x y) → HasCells out (turned_window 1 window solid)
 turned_of_rows window solid out is x y h k = is x y h k ∙ sym (turned_by_cells 1 window (is_walled_at 1 solid x y) x y)
 
 -- before the first
@@ -105,7 +105,7 @@ eight_made n from to told begins ends t left right old new rows low few small re
     let row : (m : ℕ) → from ≤ m → m < from + 8 → AreMadeOdd rule window m (odd_row new m) =
     λ m h k.
     let at : from + (m - from) ≡ m = omega arith in
-    let is = row_named begins ends solid named window (from + (m - from)) (eight_row rows (m - from)) (omega arith) (made window solid shown named tells (m - from) (omega arith)) in
+    let is = named_row_made begins ends solid named window (from + (m - from)) (eight_row rows (m - from)) (omega arith) (made window solid shown named tells (m - from) (omega arith)) in
     subst (λ x. AreMadeOdd rule window x (odd_row new x)) at (subst (AreMadeOdd rule window (from + (m - from))) (sym (written (m - from) (omega arith))) is)
     in
     record {
@@ -117,7 +117,7 @@ eight_made n from to told begins ends t left right old new rows low few small re
 pub tile_made : (n told : ℕ) (begins ends : ℕ → ℕ) (t left right out : Tile) (ul ur ll lr : ℕ) (window solid : ℕ → ℕ → Bool) → 31 ≤ n → 31 < length out.odd_odd → 31 < length out.even_odd → AreMadeUpTo n told begins ends t left right out → ShowsInnerRows window t left right
     → NameBlocks begins ends solid → TellsRows told (is_walled_at 1 solid) → get_or out.odd_even 0 0 ≡ ll → get_or out.even_even 0 0 ≡ lr
     → AreLower (λ i. turned_cell (bit (begins 0) i)) (λ i. turned_cell (bit (ends 0) i)) window 0 ll lr → AreUpper (λ i. turned_cell (bit (begins 32) i)) (λ i. turned_cell (bit (ends 32) i)) window 64 ul ur
-    → HasCells (record { even_even = out.even_even; odd_even = out.odd_even; even_odd = set out.even_odd 31 ur; odd_odd = set out.odd_odd 31 ul }) (turned 1 window solid)
+    → HasCells (record { even_even = out.even_even; odd_even = out.odd_even; even_odd = set out.even_odd 31 ur; odd_odd = set out.odd_odd 31 ul }) (turned_window 1 window solid)
 tile_made n told begins ends t left right out ul ur ll lr window solid all odd_long even_long made shown named tells odd_top even_top at_top at_bottom =
     let rule = rule_among solid in
     let top = lower_named begins ends solid named window 0 (2 * 0 + 0) 0 ll lr (omega arith) (even_start 0) at_top in
@@ -152,7 +152,7 @@ even_class words window are p q p_two q_two i j h k = are i j h k ∙ ap₂ (is_
 
 pub counted_among : (t : Tile) (ee oe eo oo : List ℕ) (test : ℕ → ℕ → Bool) (a b c d : ℕ) → IsClass ee 0 0 test → IsClass oe 1 0 test → IsClass eo 0 1 test → IsClass oo 1 1 test
     → a ≡ particles_among t.even_even ee 32 → b ≡ particles_among t.odd_even oe 32 → c ≡ particles_among t.even_odd eo 32 → d ≡ particles_among t.odd_odd oo 32
-    → AreCounts (record { even_even = a; odd_even = b; even_odd = c; odd_odd = d }) (λ x y. has t x y && test x y)
+    → AreClassCounts (record { even_even = a; odd_even = b; even_odd = c; odd_odd = d }) (λ x y. has t x y && test x y)
 counted_among t ee oe eo oo test a b c d is_ee is_oe is_eo is_oo count_ee count_oe count_eo count_oo =
     let zero : 0 < 2 = omega arith in
     let one : 1 < 2 = omega arith in

@@ -9,7 +9,8 @@ use Rattle.bit_tile.proofs.Counts.{cells_same, cells-split, cells_counted-none, 
 use Rattle.gas_terms.specs.Velocity.{has_parity}
 use Rattle.gas_terms.specs.declared.accounts.Pair.{Pair}
 use Rattle.gas_terms.specs.declared.accounts.Took.{Took}
-use Rattle.block_rule.specs.Around.{either, none, is_walled_at, twice_forward, twice_momentum, taken, plus}
+use Rattle.gas_terms.specs.Accounts.{pair_plus}
+use Rattle.block_rule.specs.Around.{either, none, is_walled_at, twice_forward, twice_momentum_in, taken_in_tile}
 use Rattle.block_rule.proofs.Blank.{walled_either}
 
 is_of_parity : (p n : ℕ) → p < 2 → has_parity p n ≡ (n % 2 == p)
@@ -47,11 +48,11 @@ pair x y = record { x = x; y = y }
 pub pair_same : (a b c d : ℤ) → a ≡ c → b ≡ d → pair a b ≡ pair c d
 pair_same a b c d x y = rw (x, y)
 
-pub twice_momentum-same : (p : ℕ) (cells others : ℕ → ℕ → Bool) → ((x y : ℕ) → x < 64 → y < 64 → cells x y ≡ others x y) → twice_momentum p cells ≡ twice_momentum p others
-twice_momentum-same p cells others same = grind (arith, pair_same, twice_forward-same)
+pub twice_momentum_in-same : (p : ℕ) (cells others : ℕ → ℕ → Bool) → ((x y : ℕ) → x < 64 → y < 64 → cells x y ≡ others x y) → twice_momentum_in p cells ≡ twice_momentum_in p others
+twice_momentum_in-same p cells others same = grind (arith, pair_same, twice_forward-same)
 
-pub twice_momentum-none : (p : ℕ) (cells : ℕ → ℕ → Bool) → ((x y : ℕ) → x < 64 → y < 64 → cells x y ≡ false) → pair (pos 0) (pos 0) ≡ twice_momentum p cells
-twice_momentum-none p cells empty = grind (arith, pair_same, twice_forward-none)
+pub twice_momentum_in-none : (p : ℕ) (cells : ℕ → ℕ → Bool) → ((x y : ℕ) → x < 64 → y < 64 → cells x y ≡ false) → pair (pos 0) (pos 0) ≡ twice_momentum_in p cells
+twice_momentum_in-none p cells empty = grind (arith, pair_same, twice_forward-none)
 
 -- the account of the walls and that of the obstacles
 abbrev pub accounts : Pair → Pair → Took
@@ -77,12 +78,12 @@ module _ (t w o : ℕ → ℕ → Bool) where
   twice_forward-add : (f : ℕ → ℕ → Bool) → twice_forward (λ x y. t x y && w x y && not (o x y)) f +ℤ twice_forward (λ x y. t x y && o x y) f ≡ twice_forward (λ x y. t x y && (w x y || o x y)) f
   twice_forward-add f = omega (arith, ints, all_count f, all_count (λ x y. not (f x y)))
 
-  pub twice_momentum-add : (p : ℕ) → plus (twice_momentum p (λ x y. t x y && w x y && not (o x y))) (twice_momentum p (λ x y. t x y && o x y)) ≡ twice_momentum p (λ x y. t x y && (w x y || o x y))
-  twice_momentum-add p = pair_same _ _ _ _ (twice_forward-add (λ x y. has_parity p x)) (twice_forward-add (λ x y. has_parity p y))
+  pub twice_momentum_in-add : (p : ℕ) → pair_plus (twice_momentum_in p (λ x y. t x y && w x y && not (o x y))) (twice_momentum_in p (λ x y. t x y && o x y)) ≡ twice_momentum_in p (λ x y. t x y && (w x y || o x y))
+  twice_momentum_in-add p = pair_same _ _ _ _ (twice_forward-add (λ x y. has_parity p x)) (twice_forward-add (λ x y. has_parity p y))
 
 -- the two accounts together
-pub took_together : (p : ℕ) (tile : Tile) (walls obstacles : ℕ → ℕ → Bool) (took : Took) → took ≡ taken p tile walls obstacles → plus took.walls took.obstacles ≡ twice_momentum p (λ x y. has tile x y && is_walled_at p (either walls obstacles) x y)
+pub took_together : (p : ℕ) (tile : Tile) (walls obstacles : ℕ → ℕ → Bool) (took : Took) → took ≡ taken_in_tile p tile walls obstacles → pair_plus took.walls took.obstacles ≡ twice_momentum_in p (λ x y. has tile x y && is_walled_at p (either walls obstacles) x y)
 took_together p tile walls obstacles took is_took =
     rw is_took
-    (twice_momentum-add (has tile) (is_walled_at p walls) (is_walled_at p obstacles) p
-    ∙ twice_momentum-same p _ _ (λ x y _ _. ap (λ b. has tile x y && b) (sym (walled_either p walls obstacles x y))))
+    (twice_momentum_in-add (has tile) (is_walled_at p walls) (is_walled_at p obstacles) p
+    ∙ twice_momentum_in-same p _ _ (λ x y _ _. ap (λ b. has tile x y && b) (sym (walled_either p walls obstacles x y))))

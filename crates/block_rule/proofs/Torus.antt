@@ -14,7 +14,7 @@ use Rattle.gas_terms.specs.Gas.{along, site_of, is_walled, streamed}
 use Rattle.gas_terms.specs.Block.{corner_rule, other_coordinate}
 use Rattle.gas_terms.proofs.Cells.{has-cells_where}
 use Rattle.gas_terms.proofs.Blocks.{cell_streamed, cell_walled}
-use Rattle.block_rule.specs.Around.{around, either, is_walled_at, turned}
+use Rattle.block_rule.specs.Around.{around, either, is_walled_at, turned_window}
 use Rattle.block_rule.specs.Cell.{partner, turned_cell}
 use Rattle.block_rule.specs.Windows.{IsWindow, IsReached, IsView, IsTilePlace}
 use Rattle.block_rule.proofs.Around.{walled_by_cells, turned_by_cells}
@@ -87,7 +87,7 @@ pub walled_same : CellsWalled → (p : ℕ) (window : ℕ → ℕ → Bool) (cel
 walled_same law p window cells w h x0 y0 x y small wide high view even_x even_y in_row in_column within below = grind (arith, walled_by_cells, any_of_four, own_same, facing_same, beside_same, across_same)
 
 turned_same : CellsStep → CellsWalled → (p : ℕ) (near near_solid : ℕ → ℕ → Bool) (particles solid : Cells) (x0 y0 x y : ℕ) → p < 2 → HasEvenSides particles.width particles.height → solid.width ≡ particles.width → solid.height ≡ particles.height → IsView p near particles x0 y0 → IsView p near_solid solid x0 y0 → x0 % 2 ≡ 0 → y0 % 2 ≡ 0 → x < 64 → y < 64 → x0 + x < particles.width → y0 + y < particles.height →
-    turned p near near_solid x y ≡ plane.has (streamed p particles solid) (x0 + x) (y0 + y)
+    turned_window p near near_solid x y ≡ plane.has (streamed p particles solid) (x0 + x) (y0 + y)
 turned_same step walled p near near_solid particles solid x0 y0 x y small even wide high view solid_view even_x even_y in_row in_column within below =
     turned_by_cells p near (is_walled_at p near_solid x y) x y
     ∙ cell_same _ _ _ _ _ _ _ _ _ _
@@ -107,20 +107,20 @@ module _ (p : ℕ) (particles walls obstacles : Cells) (x0 y0 : ℕ) (near_walls
   solid_view made = grind (arith, view_either)
 
   pub turned_is_streamed : MadeCells → CellsStep → CellsWalled → (near : ℕ → ℕ → Bool) → p < 2 → IsView p near particles x0 y0 → (x y : ℕ) → x < 64 → y < 64 →
-      turned p near (either near_walls near_obstacles) x y ≡ plane.has (streamed p particles (joined walls obstacles)) (x0 + x) (y0 + y)
+      turned_window p near (either near_walls near_obstacles) x y ≡ plane.has (streamed p particles (joined walls obstacles)) (x0 + x) (y0 + y)
   turned_is_streamed made step walled near small view x y in_row in_column =
       turned_same step walled p near (either near_walls near_obstacles) particles (joined walls obstacles) x0 y0 x y small place.even_sides place.of_walls.wide place.of_walls.high view (solid_view made) place.even_column place.even_row in_row in_column (omega (arith, place.right)) (omega (arith, place.bottom))
 
 -- by the laws of gas_terms
 pub tiles_turned : (p : ℕ) (particles walls obstacles : Cells) (x0 y0 : ℕ) (near near_walls near_obstacles : ℕ → ℕ → Bool) → p < 2 → IsTilePlace particles walls obstacles x0 y0 →
     IsView p near particles x0 y0 → IsView p near_walls walls x0 y0 → IsView p near_obstacles obstacles x0 y0 → (x y : ℕ) → x < 64 → y < 64 →
-    turned p near (either near_walls near_obstacles) x y ≡ plane.has (streamed p particles (joined walls obstacles)) (x0 + x) (y0 + y)
+    turned_window p near (either near_walls near_obstacles) x y ≡ plane.has (streamed p particles (joined walls obstacles)) (x0 + x) (y0 + y)
 tiles_turned p particles walls obstacles x0 y0 near near_walls near_obstacles small place near_view walls_view obstacles_view =
     turned_is_streamed p particles walls obstacles x0 y0 near_walls near_obstacles place walls_view obstacles_view has-cells_where cell_streamed cell_walled near small near_view
 
 -- the same with one set
 pub set_turned : (p : ℕ) (particles solid : Cells) (x0 y0 : ℕ) (near near_solid : ℕ → ℕ → Bool) → p < 2 → IsTilePlace particles solid solid x0 y0 → IsView p near particles x0 y0 → IsView p near_solid solid x0 y0 →
-    (x y : ℕ) → x < 64 → y < 64 → turned p near near_solid x y ≡ plane.has (streamed p particles solid) (x0 + x) (y0 + y)
+    (x y : ℕ) → x < 64 → y < 64 → turned_window p near near_solid x y ≡ plane.has (streamed p particles solid) (x0 + x) (y0 + y)
 set_turned p particles solid x0 y0 near near_solid small place view solid_view x y in_row in_column =
     turned_same cell_streamed cell_walled p near near_solid particles solid x0 y0 x y small place.even_sides place.of_walls.wide place.of_walls.high view solid_view place.even_column place.even_row in_row in_column (omega (arith, place.right)) (omega (arith, place.bottom))
 

@@ -16,10 +16,10 @@ use Rattle.gas_terms.specs.declared.accounts.Pair.{Pair}
 use Rattle.gas_terms.proofs.Cells.{has-cells_where}
 use Rattle.gas_terms.proofs.Blocks.{cell_walled}
 use Rattle.gas_terms.proofs.RectangleTotals.{total_in-parities}
-use Rattle.block_rule.specs.Around.{either, none, is_walled_at, is_for_walls, twice_momentum, taken}
+use Rattle.block_rule.specs.Around.{either, none, is_walled_at, is_for_walls, twice_momentum_in, taken_in_tile}
 use Rattle.block_rule.specs.Windows.{IsView, IsTilePlace, square, taken_in}
 use Rattle.block_rule.proofs.Blank.{walled_either}
-use Rattle.block_rule.proofs.Took.{pair_same, accounts_same, twice_momentum-same, twice_momentum-none, right_count, left_count, down_count, up_count}
+use Rattle.block_rule.proofs.Took.{pair_same, accounts_same, twice_momentum_in-same, twice_momentum_in-none, right_count, left_count, down_count, up_count}
 use Rattle.block_rule.proofs.Torus.{MadeCells, CellsWalled, walled_same, solid_view}
 use Rattle.std.proofs.lemmas.Bool.{and_right}
 use Rattle.gas_terms.proofs.Parity.{parity-small}
@@ -53,7 +53,7 @@ by_classes p a b c d =
       y = pos 2 *ℤ (sign (p == 0) *ℤ (pos (a + b) -ℤ pos (c + d)));
     }
 
-momentum_by_classes : (cells : ℕ → ℕ → Bool) (p : ℕ) → p < 2 → twice_momentum p cells ≡ by_classes p (class cells 0 0) (class cells 1 0) (class cells 0 1) (class cells 1 1)
+momentum_by_classes : (cells : ℕ → ℕ → Bool) (p : ℕ) → p < 2 → twice_momentum_in p cells ≡ by_classes p (class cells 0 0) (class cells 1 0) (class cells 0 1) (class cells 1 1)
 momentum_by_classes cells zero small =
     pair_same _ _ _ _
     (ap₂ (λ m n. pos (2 * m) -ℤ pos (2 * n)) (right_count cells 0 small) (left_count cells 0 small)
@@ -70,7 +70,7 @@ momentum_by_classes cells (suc (suc p)) small = absurd (omega arith)
 
 -- the momentum of a square's cells, as a tile and on the torus
 momentum_same : SumsByParities → (tick : ℤ) (cells : Cells) (x0 y0 : ℕ) → x0 % 2 ≡ 0 → y0 % 2 ≡ 0 →
-    twice_momentum (parity tick) (λ x y. plane.has cells (x0 + x) (y0 + y)) ≡ torus.twice_momentum (total_in tick cells (square x0 y0))
+    twice_momentum_in (parity tick) (λ x y. plane.has cells (x0 + x) (y0 + y)) ≡ torus.twice_momentum (total_in tick cells (square x0 y0))
 momentum_same sums tick cells x0 y0 even_x even_y =
     let here : ℕ → ℕ → Bool = λ x y. plane.has cells (x0 + x) (y0 + y) in
     let count : (a b : ℕ) → class here a b ≡ parity_count cells (square x0 y0) a b = λ a b. sym (counts_same cells x0 y0 a b even_x even_y) in
@@ -117,23 +117,23 @@ module _ (made : MadeCells) (walled : CellsWalled) (sums : SumsByParities) (tick
   made_same : (test : Site → Bool) (x y : ℕ) → x < 64 → y < 64 → plane.has (stopped (parity tick) particles test) (x0 + x) (y0 + y) ≡ (plane.has particles (x0 + x) (y0 + y) && test (site_of (parity tick) particles.width particles.height (x0 + x) (y0 + y)))
   made_same test x y in_row in_column = grind (arith, in_width, in_height)
 
-  pub taken_is_taken_in : taken (parity tick) tile near_walls near_obstacles ≡ taken_in tick particles walls obstacles (square x0 y0)
+  pub taken_is_taken_in : taken_in_tile (parity tick) tile near_walls near_obstacles ≡ taken_in tick particles walls obstacles (square x0 y0)
   taken_is_taken_in =
       accounts_same _ _ _ _
-      (twice_momentum-same (parity tick) _ _ (λ x y in_row in_column.
+      (twice_momentum_in-same (parity tick) _ _ (λ x y in_row in_column.
       regroup (has tile x y) (is_walled_at (parity tick) near_walls x y) (is_walled_at (parity tick) near_obstacles x y)
       ∙ ap₂ (λ a b. a && b) (is_tile x y in_row in_column) (walls_take made walled (parity tick) (parity-small tick) particles walls obstacles x0 y0 near_walls near_obstacles place walls_view obstacles_view x y in_row in_column)
       ∙ sym (made_same (takes_for_walls walls obstacles) x y in_row in_column))
       ∙ momentum_same sums tick (stopped (parity tick) particles (takes_for_walls walls obstacles)) x0 y0 place.even_column place.even_row)
-      (twice_momentum-same (parity tick) _ _ (λ x y in_row in_column.
+      (twice_momentum_in-same (parity tick) _ _ (λ x y in_row in_column.
       ap₂ (λ a b. a && b) (is_tile x y in_row in_column) (obstacles_take made walled (parity tick) (parity-small tick) particles walls obstacles x0 y0 near_walls near_obstacles place walls_view obstacles_view x y in_row in_column)
       ∙ sym (made_same (takes_for_obstacles walls obstacles) x y in_row in_column))
       ∙ momentum_same sums tick (stopped (parity tick) particles (takes_for_obstacles walls obstacles)) x0 y0 place.even_column place.even_row)
 
 pub tiles_took : (tick : ℤ) (tile : Tile) (particles walls obstacles : Cells) (x0 y0 : ℕ) (near_walls near_obstacles : ℕ → ℕ → Bool) → IsTilePlace particles walls obstacles x0 y0 →
     HasCells tile (λ x y. plane.has particles (x0 + x) (y0 + y)) → IsView (parity tick) near_walls walls x0 y0 → IsView (parity tick) near_obstacles obstacles x0 y0 →
-    taken (parity tick) tile near_walls near_obstacles ≡ taken_in tick particles walls obstacles (square x0 y0)
+    taken_in_tile (parity tick) tile near_walls near_obstacles ≡ taken_in tick particles walls obstacles (square x0 y0)
 tiles_took = taken_is_taken_in has-cells_where cell_walled total_in-parities
 
-pub taken_of_none : (p : ℕ) (tile : Tile) → taken p tile none none ≡ record { walls = record { x = pos 0; y = pos 0 }; obstacles = record { x = pos 0; y = pos 0 } }
-taken_of_none p tile = grind (arith, accounts_same, twice_momentum-none, and_right)
+pub taken_of_none : (p : ℕ) (tile : Tile) → taken_in_tile p tile none none ≡ record { walls = record { x = pos 0; y = pos 0 }; obstacles = record { x = pos 0; y = pos 0 } }
+taken_of_none p tile = grind (arith, accounts_same, twice_momentum_in-none, and_right)

@@ -16,7 +16,7 @@ abbrev pub class : (ℕ → ℕ → Bool) → ℕ → ℕ → ℕ
 class cells i j = count_cells (λ x y. cells x y && x % 2 == i && y % 2 == j)
 
 -- the counts are those of these cells' classes
-pub record AreCounts (c : Classes) (cells : ℕ → ℕ → Bool) : Type 0 where
+pub record AreClassCounts (c : Classes) (cells : ℕ → ℕ → Bool) : Type 0 where
   pub even_even : c.even_even ≡ class cells 0 0
   pub odd_even : c.odd_even ≡ class cells 1 0
   pub even_odd : c.even_odd ≡ class cells 0 1

@@ -3,7 +3,7 @@ use Rattle.std.specs.Prelude.{◌≡◌, ℕ, ◌+◌, ◌*◌, ◌<◌, ◌≤�
 use Rattle.bit_tile.specs.Bit.{bit}
 use Rattle.bit_tile.specs.Tile.{has}
 use Rattle.bit_tile.specs.declared.Tile.{Tile}
-use Rattle.block_rule.specs.Around.{is_block_walled, turned}
+use Rattle.block_rule.specs.Around.{is_block_walled, turned_window}
 use Rattle.block_rule.specs.Rows.{odd_row, beside_right}
 use Rattle.block_rule.specs.declared.blocks.Blocks.{Blocks}
 use Rattle.block_rule.specs.declared.blocks.Beside.{Beside}
@@ -31,7 +31,7 @@ pub record IsRowTurned (new : Blocks) (test : ℕ → ℕ → Bool) (j : ℕ) : 
 
 -- The cells after the phase, but for a tile's first column: its cells come from the tile to the left.
 abbrev pub TurnsInto : (ℕ → ℕ → Bool) → (ℕ → ℕ → Bool) → (ℕ → ℕ → Bool) → Type 0
-TurnsInto window solid after = (x y : ℕ) → 1 ≤ x → after x y ≡ turned 1 window solid x y
+TurnsInto window solid after = (x y : ℕ) → 1 ≤ x → after x y ≡ turned_window 1 window solid x y
 
 -- what is carried into a column, of which the test tells the cell in each of the tile's rows
 pub record IsLeaving (carried : Beside) (column : ℕ → Bool) (j : ℕ) : Type 0 where

@@ -3,7 +3,7 @@
 ghost use Rattle.std.specs.Prelude.{◌≡◌, ℕ, ◌+◌, ◌<◌, ◌≤◌, ◌⊎◌, Bool};
 ghost use Rattle.bit_tile.specs.Bit.{bit};
 ghost use Rattle.bit_tile.specs.Tile.{HasCells};
-ghost use Rattle.block_rule.specs.Around.{is_walled_at, turned};
+ghost use Rattle.block_rule.specs.Around.{is_walled_at, turned_window};
 ghost use Rattle.block_rule.specs.Cell.{turned_cell};
 ghost use Rattle.block_rule.specs.NamedBlocks.{AreCollidedEven, NameEvenBlocks};
 ghost use Rattle.block_rule.specs.Rows.{ShowsTile, IsMade, even_row, eight_row};
@@ -79,7 +79,7 @@ fn collide_eight<W: Walled>(walled: W, from: usize, tile: &mut Tile)
 pub fn collide_even<W: Walled>(walled: W, tile: &mut Tile)
     ensures { (window solid : ℕ → ℕ → Bool) → ShowsTile window tile.old →
         NameEvenBlocks (W.evens walled) solid → TellsRows (W.told walled) (is_walled_at 0 solid) →
-        HasCells tile.new (turned 0 window solid) }
+        HasCells tile.new (turned_window 0 window solid) }
 {
     collide_eight(walled, 0, tile);
     collide_eight(walled, 8, tile);

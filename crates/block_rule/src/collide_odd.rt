@@ -2,7 +2,7 @@
 
 ghost use Rattle.std.specs.Prelude.{◌≡◌, ℕ, ◌+◌, ◌*◌, ◌<◌, ◌≤◌, ◌⊎◌, Bool, slice_index};
 ghost use Rattle.bit_tile.specs.Tile.{HasCells};
-ghost use Rattle.block_rule.specs.Around.{turned, is_walled_at};
+ghost use Rattle.block_rule.specs.Around.{turned_window, is_walled_at};
 ghost use Rattle.block_rule.specs.Shown.{TellsRows};
 ghost use Rattle.block_rule.specs.NamedBlocks.{NameBlocks, IsCollidedOdd, AreMadeUpTo};
 ghost use Rattle.block_rule.specs.Rows.{ShowsTile, ShowsAllRound, ShowsInnerRows, ShowsOddRow, eight_row};
@@ -104,7 +104,7 @@ pub fn collide_odd<W: Walled>(walled: W, tile: &Tile, round: &Round, out: &mut T
     ensures { (window solid : ℕ → ℕ → Bool) → ShowsTile window tile.now →
         ShowsAllRound window round.now → NameBlocks (W.begins walled) (W.ends walled) solid →
         TellsRows (W.told walled) (is_walled_at 1 solid) →
-        HasCells out.new (turned 1 window solid) }
+        HasCells out.new (turned_window 1 window solid) }
 {
     // The references are read once.
     let near = *round;

@@ -2,8 +2,8 @@
 
 ghost use Rattle.std.specs.Prelude.{◌≡◌, ℕ, ◌+◌, ◌*◌, ◌<◌, ◌≤◌, ◌&&◌, Bool, false, slice_index, pos, ◌-ℤ◌, nat_abs};
 ghost use Rattle.gas_terms.specs.Accounts.{IsTakenOfAtMost};
-ghost use Rattle.block_rule.specs.Around.{twice_momentum};
-ghost use Rattle.block_rule.specs.Classes.{HasAtMost, AreCounts, particles_among};
+ghost use Rattle.block_rule.specs.Around.{twice_momentum_in};
+ghost use Rattle.block_rule.specs.Classes.{HasAtMost, AreClassCounts, particles_among};
 
 use bit_tile::joined;
 use gas_terms::Pair;
@@ -47,8 +47,8 @@ fn twice(forward: u32, back: u32) -> i64
 pub fn momentum(counts: Classes, parity: u8) -> Pair
     requires counts { HasAtMost 1024 counts }
     requires parity { parity < 2 }
-    ensures is { (cells : ℕ → ℕ → Bool) → AreCounts counts cells →
-        result ≡ twice_momentum parity cells }
+    ensures is { (cells : ℕ → ℕ → Bool) → AreClassCounts counts cells →
+        result ≡ twice_momentum_in parity cells }
     ensures few { IsTakenOfAtMost 4096 result }
 {
     let even_columns = counts.even_even + counts.even_odd;

@@ -4,7 +4,7 @@
 
 ghost use Rattle.std.specs.Prelude.{◌≡◌, ℕ, ◌+◌, ◌*◌, ◌<◌, ◌≤◌, Bool, slice_index};
 ghost use Rattle.bit_tile.specs.Tile.{has};
-ghost use Rattle.block_rule.specs.Around.{turned};
+ghost use Rattle.block_rule.specs.Around.{turned_window};
 ghost use Rattle.block_rule.specs.TileBlocks.{AreGivenBlocks, NamesBlocks, walled_by};
 ghost use Rattle.block_rule.specs.Rows.{odd_row, eight_row, beside_right};
 ghost use Rattle.block_rule.specs.InPlace.{ShowsBegun, NamesRow, TurnsInto, IsRowTurned, IsLeaving, IsInnerSeen, IsSeamSeen, AreRowsSeen, AreNamed, AreCarried, AreEightCarried, AreOthersCarried, AreOthersKept, IsCarried, carried_row, eight_leaving, HaveTurned, AreEndsKept, HasOtherCells};
@@ -48,7 +48,7 @@ pub fn turned_row(own: Blocks, right: Beside, walled: u32, coming: Beside) -> Tu
         ShowsBegun window j own right → NamesRow walled solid j → IsLeaving coming (after 0) j →
         IsRowTurned result.own after j }
     ensures leaving { (window solid : ℕ → ℕ → Bool) (j : ℕ) → ShowsBegun window j own right →
-        NamesRow walled solid j → IsLeaving result.leaving (turned 1 window solid 64) j }
+        NamesRow walled solid j → IsLeaving result.leaving (turned_window 1 window solid 64) j }
 {
     let made = collided(
         Blocks {
@@ -127,7 +127,8 @@ fn turned_eight<W: Walled>(
         AreRowsSeen from (from + 8) window tile.now right.now →
         AreNamed from (from + 8) (W.begins walled) solid →
         (k : ℕ) → k < 8 →
-        IsLeaving (eight_leaving result.upper result.lower k) (turned 1 window solid 64) (from + k) }
+        IsLeaving (eight_leaving result.upper result.lower k) (turned_window 1 window solid 64)
+        (from + k) }
 {
     let mut eight = TurnedEight {
         own: EightRows::ZERO,
@@ -187,7 +188,7 @@ fn turned_on<W: Walled>(
     ensures leaving { (window solid : ℕ → ℕ → Bool) →
         AreRowsSeen from (from + 8) window tile.now right.now →
         AreNamed from (from + 8) (W.begins walled) solid →
-        AreEightCarried from at carry.new (turned 1 window solid 64) }
+        AreEightCarried from at carry.new (turned_window 1 window solid 64) }
     ensures others { AreOthersCarried at (at + 8) carry.old carry.new }
 {
     let eight = turned_eight(walled, from, at, tile, right, carry);
@@ -203,7 +204,7 @@ fn turn_rows(tile: &mut Tile, right: &Tile, carry: &mut Carry)
         AreNamed 0 24 (λ _. 0) solid → AreCarried 0 24 carry.old (after 0) →
         HaveTurned 0 24 tile.new after }
     ensures leaving { (window solid : ℕ → ℕ → Bool) → AreRowsSeen 0 24 window tile.old right.now →
-        AreNamed 0 24 (λ _. 0) solid → AreCarried 0 24 carry.new (turned 1 window solid 64) }
+        AreNamed 0 24 (λ _. 0) solid → AreCarried 0 24 carry.new (turned_window 1 window solid 64) }
     ensures ends { AreEndsKept tile.old tile.new }
     ensures others { AreOthersKept 0 24 tile.old tile.new carry.old carry.new }
 {
@@ -233,7 +234,7 @@ fn turn_free(tile: &mut Tile, right: &Tile, carry: &mut Carry)
         AreNamed 0 31 (λ _. 0) solid → IsCarried carry.old (after 0) →
         (x y : ℕ) → x < 64 → 1 ≤ y → y < 63 → has tile.new x y ≡ after x y }
     ensures leaving { (window solid : ℕ → ℕ → Bool) → IsInnerSeen window tile.old right.now →
-        AreNamed 0 31 (λ _. 0) solid → IsCarried carry.new (turned 1 window solid 64) }
+        AreNamed 0 31 (λ _. 0) solid → IsCarried carry.new (turned_window 1 window solid 64) }
     ensures top { (x : ℕ) → x < 64 → has tile.new x 0 ≡ has tile.old x 0 }
     ensures bottom { (x : ℕ) → x < 64 → has tile.new x 63 ≡ has tile.old x 63 }
 {
@@ -254,7 +255,7 @@ fn turn_eight<W: Walled>(walled: W, from: usize, tile: &mut Tile, right: &Tile, 
     ensures leaving { (window solid : ℕ → ℕ → Bool) →
         AreRowsSeen from (from + 8) window tile.old right.now →
         AreNamed from (from + 8) (W.begins walled) solid →
-        AreCarried from (from + 8) carry.new (turned 1 window solid 64) }
+        AreCarried from (from + 8) carry.new (turned_window 1 window solid 64) }
     ensures ends { AreEndsKept tile.old tile.new }
     ensures others { AreOthersKept from (from + 8) tile.old tile.new carry.old carry.new }
 {
@@ -280,7 +281,7 @@ fn turn_eight_among(
     ensures leaving { (window solid : ℕ → ℕ → Bool) →
         AreRowsSeen from (from + 8) window tile.old right.now →
         NamesBlocks set.entry.rows set.entry.blocks.now (walled_by solid) →
-        AreCarried from (from + 8) carry.new (turned 1 window solid 64) }
+        AreCarried from (from + 8) carry.new (turned_window 1 window solid 64) }
     ensures ends { AreEndsKept tile.old tile.new }
     ensures others { AreOthersKept from (from + 8) tile.old tile.new carry.old carry.new }
 {
@@ -301,7 +302,7 @@ fn turn_first(set: SetBlocks<'_>, tile: &mut Tile, right: &Tile, carry: &mut Car
         HaveTurned 0 24 tile.new after }
     ensures leaving { (window solid : ℕ → ℕ → Bool) → AreRowsSeen 0 24 window tile.old right.now →
         NamesBlocks set.entry.rows set.entry.blocks.now (walled_by solid) →
-        AreCarried 0 24 carry.new (turned 1 window solid 64) }
+        AreCarried 0 24 carry.new (turned_window 1 window solid 64) }
     ensures ends { AreEndsKept tile.old tile.new }
     ensures others { AreOthersKept 0 24 tile.old tile.new carry.old carry.new }
 {
@@ -320,7 +321,7 @@ fn turned_last(set: SetBlocks<'_>, tile: &Tile, right: &Tile, carry: &mut Carry)
         (k : ℕ) → k < 8 → IsRowTurned (eight_row result k) after (23 + k) }
     ensures leaving { (window solid : ℕ → ℕ → Bool) → AreRowsSeen 23 31 window tile.now right.now →
         NamesBlocks set.entry.rows set.entry.blocks.now (walled_by solid) →
-        AreEightCarried 23 24 carry.new (turned 1 window solid 64) }
+        AreEightCarried 23 24 carry.new (turned_window 1 window solid 64) }
     ensures others { AreOthersCarried 24 32 carry.old carry.new }
 {
     if bits_from(set.rows, 23, 8) == 0 {
@@ -340,7 +341,7 @@ fn turn_apart(set: SetBlocks<'_>, tile: &mut Tile, right: &Tile, carry: &mut Car
         (x y : ℕ) → x < 64 → 1 ≤ y → y < 63 → has tile.new x y ≡ after x y }
     ensures leaving { (window solid : ℕ → ℕ → Bool) → IsInnerSeen window tile.old right.now →
         NamesBlocks set.entry.rows set.entry.blocks.now (walled_by solid) →
-        IsCarried carry.new (turned 1 window solid 64) }
+        IsCarried carry.new (turned_window 1 window solid 64) }
     ensures top { (x : ℕ) → x < 64 → has tile.new x 0 ≡ has tile.old x 0 }
     ensures bottom { (x : ℕ) → x < 64 → has tile.new x 63 ≡ has tile.old x 63 }
 {
@@ -411,7 +412,7 @@ pub fn turn_inner(walled: Option<SetBlocks<'_>>, tile: &mut Tile, right: &Tile, 
         (x y : ℕ) → x < 64 → 1 ≤ y → y < 63 → has tile.new x y ≡ after x y }
     ensures leaving { (window solid : ℕ → ℕ → Bool) → IsInnerSeen window tile.old right.now →
         AreGivenBlocks walled.entry (walled_by solid) →
-        IsCarried carry.new (turned 1 window solid 64) }
+        IsCarried carry.new (turned_window 1 window solid 64) }
     ensures top { (x : ℕ) → x < 64 → has tile.new x 0 ≡ has tile.old x 0 }
     ensures bottom { (x : ℕ) → x < 64 → has tile.new x 63 ≡ has tile.old x 63 }
 {
@@ -456,11 +457,11 @@ pub fn put_first_column(tile: &mut Tile, carry: &Carry)
 pub fn turned_seam(walled: Option<SetBlocks<'_>>, row: SeamRow, coming: Beside) -> TurnedRow
     ensures own { (window solid : ℕ → ℕ → Bool) → ShowsBegun window 31 row.own row.right →
         AreGivenBlocks walled.entry (walled_by solid) →
-        IsLeaving coming (turned 1 window solid 0) 31 →
-        IsRowTurned result.own (turned 1 window solid) 31 }
+        IsLeaving coming (turned_window 1 window solid 0) 31 →
+        IsRowTurned result.own (turned_window 1 window solid) 31 }
     ensures leaving { (window solid : ℕ → ℕ → Bool) → ShowsBegun window 31 row.own row.right →
         AreGivenBlocks walled.entry (walled_by solid) →
-        IsLeaving result.leaving (turned 1 window solid 64) 31 }
+        IsLeaving result.leaving (turned_window 1 window solid 64) 31 }
 {
     let SeamRow { own, right } = row;
     turned_row(own, right, seam_word(walled), coming)

@@ -12,7 +12,7 @@ ghost use Rattle.gas_terms.specs.Cells as plane;
 ghost use Rattle.gas_terms.specs.Gas.{streamed};
 ghost use Rattle.gas_terms.specs.declared.accounts.Pair.{Pair};
 ghost use Rattle.gas_terms.specs.declared.accounts.Took.{Took};
-ghost use Rattle.block_rule.specs.Around.{around, turned, either, none, taken};
+ghost use Rattle.block_rule.specs.Around.{around, turned_window, either, none, taken_in_tile};
 ghost use Rattle.block_rule.specs.Rows.{ShowsTile, ShowsRound};
 ghost use Rattle.block_rule.specs.Windows.{IsWindow, IsView, IsTilePlace, IsAround, square, taken_in};
 
@@ -43,7 +43,7 @@ pub fn tiles_turn_as_the_torus()
         IsView p near particles x0 y0 → IsView p near_walls walls x0 y0 →
         IsView p near_obstacles obstacles x0 y0 →
         (x y : ℕ) → x < 64 → y < 64 →
-        turned p near (either near_walls near_obstacles) x y ≡
+        turned_window p near (either near_walls near_obstacles) x y ≡
         plane.has (streamed p particles (joined walls obstacles)) (x0 + x) (y0 + y) }
 {}
 
@@ -55,11 +55,11 @@ pub fn tiles_take_as_the_torus()
         HasCells tile (λ x y. plane.has particles (x0 + x) (y0 + y)) →
         IsView (parity tick) near_walls walls x0 y0 →
         IsView (parity tick) near_obstacles obstacles x0 y0 →
-        taken (parity tick) tile near_walls near_obstacles ≡
+        taken_in_tile (parity tick) tile near_walls near_obstacles ≡
         taken_in tick particles walls obstacles (square x0 y0) }
     ensures nothing { (p : ℕ) (tile : TileRows) →
         let zero : Pair = record { x = pos 0; y = pos 0 } in
-        taken p tile none none ≡ record { walls = zero; obstacles = zero } }
+        taken_in_tile p tile none none ≡ record { walls = zero; obstacles = zero } }
 {}
 
 /// The blocks of odd parity that begin in a tile reach one column and one row beyond it. There too the block rule on the tile is the
@@ -72,6 +72,6 @@ pub fn odd_blocks_reach_beyond()
         IsView 1 near_obstacles obstacles x0 y0 →
         (x y column row : ℕ) → x ≤ 64 → y ≤ 64 →
         IsAround particles.width (x0 + x) column → IsAround particles.height (y0 + y) row →
-        turned 1 near (either near_walls near_obstacles) x y ≡
+        turned_window 1 near (either near_walls near_obstacles) x y ≡
         plane.has (streamed 1 particles (joined walls obstacles)) column row }
 {}

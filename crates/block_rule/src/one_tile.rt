@@ -4,10 +4,11 @@ ghost use Rattle.std.specs.Prelude.{◌≡◌, ℕ, ◌<◌, Bool, not, ◌&&◌
 ghost use Rattle.bit_tile.specs.Tile.{has, HasCells};
 ghost use Rattle.gas_terms.specs.Velocity.{Velocity, opposite, outcome};
 ghost use Rattle.block_rule.specs.Block.{channels_of};
-ghost use Rattle.block_rule.specs.Around.{around, turned, either, is_walled_at, twice_momentum, taken, plus};
+ghost use Rattle.block_rule.specs.Around.{around, turned_window, either, is_walled_at, twice_momentum_in, taken_in_tile};
 ghost use Rattle.block_rule.specs.Shown.{IsSeenIn};
 ghost use Rattle.tile_border.specs.Ring.{IsBorderOf};
 ghost use Rattle.tile_border.specs.declared.border.Border.{Border as BorderValue};
+ghost use Rattle.gas_terms.specs.Accounts.{pair_plus};
 
 use crate::Window;
 use crate::blocks_in_tile::{SetBlocks, tile_blocks};
@@ -58,12 +59,12 @@ pub fn turn_tile(
     parity: u8,
 ) -> (Tile, Took)
     requires { parity < 2 }
-    ensures cells { HasCells result.0 (turned parity (around tile.now border.now)
+    ensures cells { HasCells result.0 (turned_window parity (around tile.now border.now)
         (either (around walls.now wall_border.now) (around obstacles.now obstacle_border.now))) }
-    ensures took { result.1 ≡ taken parity tile.now
+    ensures took { result.1 ≡ taken_in_tile parity tile.now
         (around walls.now wall_border.now) (around obstacles.now obstacle_border.now) }
-    ensures together { plus result.1.walls result.1.obstacles ≡
-        twice_momentum parity (λ x y. has tile.now x y &&
+    ensures together { pair_plus result.1.walls result.1.obstacles ≡
+        twice_momentum_in parity (λ x y. has tile.now x y &&
         is_walled_at parity (either (around walls.now wall_border.now)
         (around obstacles.now obstacle_border.now)) x y) }
 {

@@ -2,7 +2,7 @@
 
 ghost use Rattle.std.specs.Prelude.{◌≡◌, ℕ, ◌+◌, ◌*◌, ◌<◌, Bool, ◌&&◌, slice_index};
 ghost use Rattle.bit_tile.specs.Tile.{has, HasCells};
-ghost use Rattle.block_rule.specs.Around.{turned, either, is_walled_at, is_for_walls, twice_momentum, taken};
+ghost use Rattle.block_rule.specs.Around.{turned_window, either, is_walled_at, is_for_walls, twice_momentum_in, taken_in_tile};
 ghost use Rattle.gas_terms.specs.Accounts.{IsTakenOfAtMost};
 ghost use Rattle.block_rule.specs.Accounts.{if_counted, counted_of};
 ghost use Rattle.block_rule.specs.Rows.{ShowsTile};
@@ -38,7 +38,7 @@ fn last_words(words: &[u32; 33]) -> &[u32; 32]
 // Twice the momentum of a tile's particles in blocks that words name, of even parity.
 fn momentum_even(tile: &Tile, words: &[u32; 32]) -> Pair
     ensures is { (window : ℕ → ℕ → Bool) → AreEvenBlocksOf words.now (is_walled_at 0 window) →
-        result ≡ twice_momentum 0 (λ x y. has tile.now x y && is_walled_at 0 window x y) }
+        result ≡ twice_momentum_in 0 (λ x y. has tile.now x y && is_walled_at 0 window x y) }
     ensures few { IsTakenOfAtMost 4096 result }
 {
     let counts = Classes {
@@ -53,7 +53,7 @@ fn momentum_even(tile: &Tile, words: &[u32; 32]) -> Pair
 // And of odd parity.
 fn momentum_odd(tile: &Tile, words: &OddBlocks) -> Pair
     ensures is { (window : ℕ → ℕ → Bool) → AreOddBlocksOf words.now (is_walled_at 1 window) →
-        result ≡ twice_momentum 1 (λ x y. has tile.now x y && is_walled_at 1 window x y) }
+        result ≡ twice_momentum_in 1 (λ x y. has tile.now x y && is_walled_at 1 window x y) }
     ensures few { IsTakenOfAtMost 4096 result }
 {
     let counts = Classes {
@@ -71,7 +71,8 @@ fn momentum_by_set(tile: &Tile, set: SetBlocks<'_>, parity: u8) -> Pair
     requires { parity < 2 }
     ensures is { (window : ℕ → ℕ → Bool) →
         NamesBlocks set.entry.rows set.entry.blocks.now (walled_by window) →
-        result ≡ twice_momentum parity (λ x y. has tile.now x y && is_walled_at parity window x y) }
+        result ≡ twice_momentum_in parity (λ x y. has tile.now x y &&
+        is_walled_at parity window x y) }
     ensures few { IsTakenOfAtMost 4096 result }
 {
     if parity == 0 {
@@ -92,7 +93,7 @@ fn taken_by_obstacles(
     requires { parity < 2 }
     ensures { (obstructed : ℕ → ℕ → Bool) → AreGivenBlocks obstacles.entry (walled_by obstructed) →
         result ≡ if_counted counted
-        (twice_momentum parity (λ x y. has tile.now x y && is_walled_at parity obstructed x y)) }
+        (twice_momentum_in parity (λ x y. has tile.now x y && is_walled_at parity obstructed x y)) }
 {
     if !counted {
         return Pair::ZERO;
@@ -117,7 +118,7 @@ fn taken_by_walls(
         AreGivenBlocks all.entry (walled_by (either walled obstructed)) →
         AreGivenBlocks obstacles.entry (walled_by obstructed) →
         result ≡ if_counted counted
-        (twice_momentum parity
+        (twice_momentum_in parity
         (λ x y. has tile.now x y && is_for_walls parity walled obstructed x y)) }
 {
     if !counted {
@@ -147,7 +148,7 @@ pub fn taken_among(
     ensures { (walled obstructed : ℕ → ℕ → Bool) →
         AreGivenBlocks all.entry (walled_by (either walled obstructed)) →
         AreGivenBlocks obstacles.entry (walled_by obstructed) →
-        result ≡ counted_of counted (taken parity tile.now walled obstructed) }
+        result ≡ counted_of counted (taken_in_tile parity tile.now walled obstructed) }
 {
     Took {
         walls: taken_by_walls(tile, all, obstacles, parity, counted.walls),
@@ -160,7 +161,7 @@ pub fn taken_among(
 pub fn turn_tile_even(tile: &mut Tile, walled: Option<SetBlocks<'_>>)
     ensures { (window solid : ℕ → ℕ → Bool) → ShowsTile window tile.old →
         AreGivenBlocks walled.entry (walled_by solid) →
-        HasCells tile.new (turned 0 window solid) }
+        HasCells tile.new (turned_window 0 window solid) }
 {
     match walled {
         None => make_even(Collision, tile),
@@ -172,7 +173,7 @@ pub fn turn_tile_even(tile: &mut Tile, walled: Option<SetBlocks<'_>>)
 pub fn turn_tile_odd(particles: &Window, walled: Option<SetBlocks<'_>>, out: &mut Tile)
     ensures { (window solid : ℕ → ℕ → Bool) → IsSeenIn particles.now window →
         AreGivenBlocks walled.entry (walled_by solid) →
-        HasCells out.new (turned 1 window solid) }
+        HasCells out.new (turned_window 1 window solid) }
 {
     let Window { tile, round } = particles;
     match walled {

@@ -2,7 +2,7 @@
 
 ghost use Rattle.std.specs.Prelude.{◌≡◌, ℕ, ◌+◌, ◌<◌, ◌≤◌, [], All, IfSome, Some, slice_get, vec_len, vec_capacity};
 ghost use Rattle.gas_terms.specs.Gas.{Gas};
-ghost use Rattle.gas_seats.specs.Seats.{most_seats};
+ghost use Rattle.gas_seats.specs.Seats.{most_hall_seats};
 ghost use Rattle.gas_seats.specs.TurnSeats.{TurnSeatView, made_in_all};
 ghost use Rattle.gas_hall.specs.Busy.{busy_seats};
 ghost use Rattle.gas_hall.specs.Served.{AreSame, AreSeats, HasMet};
@@ -71,7 +71,7 @@ pub fn serve_lab<S: Stepper + Send, L: Lobby, K: Shelf + Drop + Send, R: Threads
     lobby: &mut L,
     shelves: Vec<K>,
 ) -> Option<TurnServed<S>>
-    requires shelves { (0 < vec_len shelves) × (vec_len shelves ≤ most_seats) }
+    requires shelves { (0 < vec_len shelves) × (vec_len shelves ≤ most_hall_seats) }
     requires lab { lab.journal ≡ [] }
     ensures count { IfSome result (λ served. served.done + served.failed ≡ vec_len shelves) }
     ensures busy { IfSome result (λ served. busy_seats served.seats.items ≤ served.done) }

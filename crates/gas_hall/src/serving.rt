@@ -4,7 +4,7 @@ ghost use Rattle.std.specs.Prelude.{◌≡◌, ℕ, ◌+◌, ◌≤◌, List, Al
 ghost use Rattle.std.specs.List.{sum_by};
 ghost use Rattle.gas_terms.specs.Laboratory.{most_entries, IsPrefix};
 ghost use Rattle.gas_terms.specs.declared.command.Entry.{Entry};
-ghost use Rattle.gas_seats.specs.Seats.{most_seats};
+ghost use Rattle.gas_seats.specs.Seats.{most_hall_seats};
 ghost use Rattle.gas_seats.specs.TurnSeats.{but_for_seen, entries_made, made_in_all};
 ghost use Rattle.gas_hall.specs.Served.{ComeBack, ComeBackTo};
 
@@ -242,7 +242,7 @@ fn serve_rest<
     seats: &mut Vec<T>,
     shelves: &mut Vec<K>,
 ) -> u32
-    requires few { vec_len seats.old ≤ most_seats }
+    requires few { vec_len seats.old ≤ most_hall_seats }
     requires shelves { vec_len shelves.old ≡ vec_len seats.old }
     requires here { All (λ seat. H.has house.now.hall.now (H.kept seat)) seats.old.items }
     ensures back { ComeBack H.kept H.made H.seen seats.old.items seats.new.items result }
@@ -273,7 +273,7 @@ fn serve_rest<
 
 // The entries that the seats count.
 fn entries_of<T, R, H: Seating<T, R>>(seats: &[T]) -> u32
-    requires { length seats.now ≤ most_seats }
+    requires { length seats.now ≤ most_hall_seats }
     ensures { result ≡ sum_by H.made seats.now }
 {
     let mut total = 0;
@@ -292,7 +292,7 @@ pub fn serve_seats<
     L: Lobby,
     K: Shelf + Drop + Send,
 >(rt: &R, alloc: Global, lobby: &mut L, hall: &H, seats: Vec<T>, shelves: Vec<K>) -> Served<T>
-    requires few { vec_len seats ≤ most_seats }
+    requires few { vec_len seats ≤ most_hall_seats }
     requires shelves { vec_len shelves ≡ vec_len seats }
     requires here { All (λ seat. H.has hall.now (H.kept seat)) seats.items }
     ensures count { result.done + result.failed ≡ vec_len seats }
@@ -310,7 +310,7 @@ pub fn serve_seats<
         thread::scope_env(),
         rt,
         move |scope| -> (u32, Vec<T>)
-            requires few { vec_len seats ≤ most_seats }
+            requires few { vec_len seats ≤ most_hall_seats }
             requires shelves { vec_len shelves ≡ vec_len seats }
             requires here { All (λ seat. H.has hall.now (H.kept seat)) seats.items }
             ensures back { ComeBack H.kept H.made H.seen seats.items result.1.items result.0 }
@@ -351,7 +351,7 @@ pub fn serve_turn<S: Stepper + Send, L: Lobby, K: Shelf + Drop + Send, R: Thread
     seats: Vec<TurnSeat<S>>,
     shelves: Vec<K>,
 ) -> TurnServed<S>
-    requires few { vec_len seats ≤ most_seats }
+    requires few { vec_len seats ≤ most_hall_seats }
     requires shelves { vec_len shelves ≡ vec_len seats }
     requires here { All (λ seat. seat.hall ≡ hall.now) seats.items }
     ensures count { result.done + result.failed ≡ vec_len seats }

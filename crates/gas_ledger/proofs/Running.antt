@@ -1,7 +1,7 @@
 -- A run leaves the sides of the particles.
 use Rattle.std.proofs.Common.{◌≡◌, ℕ, ℤ, Bool, true, false, Option, Some, None, if◌then◌else◌, sym, ap₂, ◌∙◌, subst}
 use Rattle.gas_terms.specs.Cells.{Cells, Extent, HasSidesOf}
-use Rattle.phase_step.specs.Runs.{after}
+use Rattle.phase_step.specs.Runs.{particles_after}
 use Rattle.phase_step.specs.Actions.{Leaves, after_with}
 use Rattle.phase_step.proofs.ActionRuns.{sides_after, sides_with}
 use Rattle.gas_ledger.specs.PortLists.{PortLists, LieWithin}
@@ -16,7 +16,7 @@ fit_sides cells now walls obstacles ports same fit =
       ports_inside = subst (λ s. LieWithin s ports) (ap₂ (λ w h. let s : Extent = record { width = w; height = h } in s) (sym same.wide) (sym same.high)) fit.ports_inside;
     }
 
-pub fit_after : (p : ℕ) (solid cells now walls obstacles : Cells) (ports : PortLists) (n : ℕ) → now ≡ after p solid cells n →
+pub fit_after : (p : ℕ) (solid cells now walls obstacles : Cells) (ports : PortLists) (n : ℕ) → now ≡ particles_after p solid cells n →
     FitTogether cells walls obstacles ports → FitTogether now walls obstacles ports
 fit_after p solid cells now walls obstacles ports n e fit =
     fit_sides cells now walls obstacles ports (subst (λ (now : Cells). HasSidesOf now cells) (sym e) (sides_after p solid cells n)) fit

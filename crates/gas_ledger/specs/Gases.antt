@@ -35,12 +35,12 @@ pub record IsSoundGas (g : Gas) : Type 0 where
   pub fit : FitTogether g.particles g.walls g.obstacles (ports_of g)
   pub ports : IsPortSet (ports_of g)
 
-abbrev pub no_cells : Extent → Cells
-no_cells size = cells_where size.width size.height (λ _ _. false)
+abbrev pub no_cells_of_size : Extent → Cells
+no_cells_of_size size = cells_where size.width size.height (λ _ _. false)
 
 -- without cells and ports, at tick 0
-abbrev pub empty_gas : Extent → Gas
-empty_gas size = gas_of (pos 0) (no_cells size) (no_cells size) (no_cells size) no_ports
+abbrev pub empty_gas_of_size : Extent → Gas
+empty_gas_of_size size = gas_of (pos 0) (no_cells_of_size size) (no_cells_of_size size) (no_cells_of_size size) no_ports
 
 -- row y of a set of cells
 abbrev pub row_of : Cells → ℕ → Rectangle

@@ -6,7 +6,7 @@ ghost use Rattle.gas_terms.specs.Commands.{enact, fits, is_tick};
 ghost use Rattle.gas_terms.specs.declared.command.Command.TheVariants.{Put, Erase, Row, Wall, Block, Unwall, Unport};
 ghost use Rattle.phase_step.specs.Runs.{gas_before, takes_before};
 ghost use Rattle.gas_ledger.specs.PortLists.{adding, has_all};
-ghost use Rattle.gas_ledger.specs.Gases.{FitTogether, IsSoundGas, gas_of, ports_of, empty_gas};
+ghost use Rattle.gas_ledger.specs.Gases.{FitTogether, IsSoundGas, gas_of, ports_of, empty_gas_of_size};
 ghost use Rattle.gas_terms.specs.Accounts.{moved_by};
 ghost use Rattle.phase_step.specs.PortedRuns.{gas_stepped, steps_take, steps_move};
 
@@ -66,7 +66,7 @@ impl Gas {
 
     /// The empty gas of this size, at tick 0. Fails if memory runs out.
     pub fn empty(alloc: Global, size: Size) -> Result<Gas, NoMemory>
-        ensures { IfOk result (λ gas. gas ≡ empty_gas size) }
+        ensures { IfOk result (λ gas. gas ≡ empty_gas_of_size size) }
     {
         let particles = Plane::empty(alloc, size)?;
         let solids = Solids::empty(alloc, size)?;

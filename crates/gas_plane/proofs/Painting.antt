@@ -99,11 +99,11 @@ not_before n c a b h = grind (arith, nat_tests)
 before : (n c : ℕ) (a b : Bool) → n < c → (a && nat_lt n c && b) ≡ (a && b)
 before n c a b h = grind (arith, nat_tests)
 
-pub row_starts : (r : Rectangle) (row first x y : ℕ) → (x / 64 < first → is_inside r x y ≡ false) → in_row r row first x y ≡ false
-row_starts r row first x y none = grind (arith, cases_lt, and_false, not_before)
+pub painted_row_starts : (r : Rectangle) (row first x y : ℕ) → (x / 64 < first → is_inside r x y ≡ false) → in_row r row first x y ≡ false
+painted_row_starts r row first x y none = grind (arith, cases_lt, and_false, not_before)
 
-pub row_ends : (r : Rectangle) (row column x y : ℕ) → (column ≤ x / 64 → is_inside r x y ≡ false) → in_row r row column x y ≡ ((y / 64 == row) && is_inside r x y)
-row_ends r row column x y none = grind (arith, cases_lt, before, and_false)
+pub painted_row_ends : (r : Rectangle) (row column x y : ℕ) → (column ≤ x / 64 → is_inside r x y ≡ false) → in_row r row column x y ≡ ((y / 64 == row) && is_inside r x y)
+painted_row_ends r row column x y none = grind (arith, cases_lt, before, and_false)
 
 one_more : (n c : ℕ) (a b : Bool) → ((a && nat_lt n c && b) || (a && (n == c) && b)) ≡ (a && nat_lt n (c + 1) && b)
 one_more n c a b = grind (arith, nat_tests)
@@ -135,9 +135,9 @@ tile_part r n row column x y part p q of =
           ∙ sym (ap (λ b. b && is_inside r x y) (apart (y / 64) row (x / 64) column (λ e f. ne (ap₂ (λ a b. a * n + b) e f))))
     ]
 
-pub row_next : (r : Rectangle) (n row column x y : ℕ) (part : ℕ → ℕ → Bool) → column < n → x / 64 < n → ((x y : ℕ) → x < 64 → y < 64 → part x y ≡ is_inside r (column * 64 + x) (row * 64 + y))
+pub painted_row_next : (r : Rectangle) (n row column x y : ℕ) (part : ℕ → ℕ → Bool) → column < n → x / 64 < n → ((x y : ℕ) → x < 64 → y < 64 → part x y ≡ is_inside r (column * 64 + x) (row * 64 + y))
     → (in_row r row column x y || ((y / 64 * n + x / 64 == row * n + column) && part (x % 64) (y % 64))) ≡ in_row r row (column + 1) x y
-row_next r n row column x y part p q of =
+painted_row_next r n row column x y part p q of =
     ap (λ b. in_row r row column x y || b) (tile_part r n row column x y part p q of) ∙ one_more (x / 64) column (y / 64 == row) (is_inside r x y)
 
 is_row : (a b : ℕ) → (a == b) ≡ true → a ≡ b
@@ -173,7 +173,7 @@ row_more cells now next r held row column across part is wide_is less so_far of 
     let n : now.width / 64 ≡ cells.width / 64 = ap (λ w. w / 64) (same_wide cells now (in_row r row column) held so_far) in
     let within : x / 64 < cells.width / 64 = tile_below cells.width x (wide (extent cells) is.sized) p in
     ap₂ (λ m a. in_row r row column x y || ((y / 64 * m + x / 64 == row * a + column) && part (x % 64) (y % 64))) n wide_is
-    ∙ row_next r (cells.width / 64) row column x y part (rw (← wide_is) less) within of)
+    ∙ painted_row_next r (cells.width / 64) row column x y part (rw (← wide_is) less) within of)
 
 with_true : (b : Bool) → b ≡ (b && true)
 with_true true = refl

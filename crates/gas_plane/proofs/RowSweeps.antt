@@ -9,7 +9,7 @@ use Rattle.bit_tile.specs.declared.Tile.{Tile}
 use Rattle.gas_terms.specs.Cells.{Cells, has, cells_where, extent, IsFull, tile_count}
 use Rattle.gas_terms.specs.Rows.{row_has, row_replaced}
 use Rattle.gas_terms.proofs.Cells.{has-cells_where, full-cells_where, same_cells_where, same_cells}
-use Rattle.gas_plane.specs.Planes.{IsLattice, IsTileFrom, tile_of, with_tile, with_word}
+use Rattle.gas_plane.specs.Planes.{IsLattice, IsTileFrom, tile_of, with_tile, with_row_word}
 use Rattle.gas_plane.proofs.Places.{wide, high, tile_below}
 use Rattle.gas_plane.proofs.Tilings.{choose_true, choose_false}
 
@@ -30,7 +30,7 @@ same_place a column row x y p q e = same_from_place (y / 64) (x / 64) (row / 64)
 clash : (b : Bool) → b ≡ true → b ≡ false → ⊥
 clash b e f = cc
 
-pub word_set : (cells : Cells) (column row word : ℕ) (t made : Tile) → IsLattice cells → column < cells.width / 64 → tile.HasCells made (λ i j. if j == row % 64 then bit word i else tile.has t i j) → IsTileFrom t cells (column * 64) (row / 64 * 64) → with_tile cells (row / 64 * (cells.width / 64) + column) made ≡ with_word cells column row word
+pub word_set : (cells : Cells) (column row word : ℕ) (t made : Tile) → IsLattice cells → column < cells.width / 64 → tile.HasCells made (λ i j. if j == row % 64 then bit word i else tile.has t i j) → IsTileFrom t cells (column * 64) (row / 64 * 64) → with_tile cells (row / 64 * (cells.width / 64) + column) made ≡ with_row_word cells column row word
 word_set cells column row word t made is p makes from =
     let a : ℕ = cells.width / 64 in
     let k : ℕ = row / 64 * a + column in
@@ -63,7 +63,7 @@ word_set cells column row word t made is p makes from =
     (λ neither. refl)))))
 
 -- a word is put where it stands
-pub word_same : (cells : Cells) (column row word : ℕ) → IsLattice cells → ((x : ℕ) → x < 64 → bit word x ≡ has cells (column * 64 + x) row) → cells ≡ with_word cells column row word
+pub word_same : (cells : Cells) (column row word : ℕ) → IsLattice cells → ((x : ℕ) → x < 64 → bit word x ≡ has cells (column * 64 + x) row) → cells ≡ with_row_word cells column row word
 word_same cells column row word is bits = grind (arith, same_cells, full-cells_where, choose_same, both_true, has-cells_where)
 
 -- the row's words before a column are replaced
@@ -95,11 +95,11 @@ at_column n c b word new old e f = grind (arith, nat_tests)
 off_column : (n c : ℕ) (b word new old : Bool) → n ≢ c → (if (n == c) && b then word else (if nat_lt n c && b then new else old)) ≡ (if nat_lt n (c + 1) && b then new else old)
 off_column n c b word new old e = grind (arith, nat_tests)
 
-pub row_next : (cells now next : Cells) (row : ℕ) (bytes chunk : List ℕ) (column word : ℕ) → IsLattice cells → now ≡ rowed cells row bytes column → next ≡ with_word now column row word
+pub row_next : (cells now next : Cells) (row : ℕ) (bytes chunk : List ℕ) (column word : ℕ) → IsLattice cells → now ≡ rowed cells row bytes column → next ≡ with_row_word now column row word
     → ((x : ℕ) → x < 64 → bit word x ≡ row_has chunk x) → ((k : ℕ) → k < 8 → get_or chunk k 0 ≡ get_or bytes (column * 8 + k) 0) → next ≡ rowed cells row bytes (column + 1)
 row_next cells now next row bytes chunk column word is so_far put bits same =
     put
-    ∙ (ap (λ (now : Cells). with_word now column row word) so_far
+    ∙ (ap (λ (now : Cells). with_row_word now column row word) so_far
     ∙ same_cells_where cells.width cells.height (λ x y. if (x / 64 == column) && (y == row) then bit word (x % 64) else has (rowed cells row bytes column) x y) (λ x y. if nat_lt (x / 64) (column + 1) && (y == row) then row_has bytes x else has cells x y)
     (λ x y p q.
     let old : has (rowed cells row bytes column) x y ≡ (if nat_lt (x / 64) column && (y == row) then row_has bytes x else has cells x y) = has-cells_where cells.width cells.height (λ x y. if nat_lt (x / 64) column && (y == row) then row_has bytes x else has cells x y) x y p q in

@@ -77,8 +77,8 @@ with_tile cells i t =
     (λ x y. if tile_of cells x y == i then tile.has t (x % 64) (y % 64) else has cells x y)
 
 -- the set with 64 cells of a row replaced, those from column 64 * column on
-abbrev pub with_word : Cells → ℕ → ℕ → ℕ → Cells
-with_word cells column row word =
+abbrev pub with_row_word : Cells → ℕ → ℕ → ℕ → Cells
+with_row_word cells column row word =
     cells_where cells.width cells.height
     (λ x y. if (x / 64 == column) && (y == row) then bit word (x % 64) else has cells x y)
 

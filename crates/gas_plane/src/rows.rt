@@ -4,7 +4,7 @@ ghost use Rattle.std.specs.Prelude.{◌≡◌, ℕ, ◌+◌, ◌*◌, ◌/◌, �
 ghost use Rattle.bit_tile.specs.Bit.{bit};
 ghost use Rattle.gas_terms.specs.Cells.{has};
 ghost use Rattle.gas_terms.specs.Rows.{row_has, row_replaced, row_bytes};
-ghost use Rattle.gas_plane.specs.Planes.{with_word};
+ghost use Rattle.gas_plane.specs.Planes.{with_row_word};
 
 use crate::Plane;
 
@@ -54,7 +54,7 @@ impl Plane {
     fn set_word(&mut self, column: u32, y: u32, word: u64)
         requires column { column < self.old.width / 64 }
         requires y { y < self.old.height }
-        ensures { self.new ≡ with_word self.old column y word }
+        ensures { self.new ≡ with_row_word self.old column y word }
     {
         let across = self.across();
         // Most rows that are loaded have not changed, and then the tile is not lent.

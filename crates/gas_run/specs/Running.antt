@@ -3,7 +3,7 @@ use Rattle.std.specs.Prelude.{◌≡◌, ℕ, ◌⊎◌, List, Option, Some, Non
 use Rattle.gas_terms.specs.Cells.{Extent}
 use Rattle.gas_terms.specs.Gas.{Gas}
 use Rattle.gas_terms.specs.Laboratory.{Laboratory, opening}
-use Rattle.gas_ledger.specs.Gases.{empty_gas}
+use Rattle.gas_ledger.specs.Gases.{empty_gas_of_size}
 use Rattle.gas_talk.specs.declared.end.SessionEnd.{SessionEnd}
 use Rattle.gas_talk.specs.declared.end.SessionEnd.TheVariants.{Quit, InputEnd, ReadFault, WriteFault, BadLine, Memory, TooManyReads}
 use Rattle.gas_talk.specs.Ends.{Place}
@@ -21,9 +21,9 @@ status_of Memory = 4
 status_of BadLine = 5
 
 -- the gas that a run starts from: the one that was given, or else one without particles, walls, obstacles and ports
-abbrev pub start_of : Extent → Option Gas → Gas
-start_of size (Some gas) = gas
-start_of size None = empty_gas size
+abbrev pub starting_gas : Extent → Option Gas → Gas
+starting_gas size (Some gas) = gas
+starting_gas size None = empty_gas_of_size size
 
 -- What a run has around it, where it is known: what the reader has still to give, what the writer holds, how many puts
 -- the shelf has failed and what it has taken.
@@ -39,8 +39,8 @@ outside unread written failures shelved =
     record { unread = unread; written = written; failures = failures; shelved = shelved }
 
 -- a laboratory and what its sessions write to and put on
-abbrev pub place_of : Laboratory → Outside → Place Laboratory
-place_of lab outside =
+abbrev pub session_place : Laboratory → Outside → Place Laboratory
+session_place lab outside =
     record {
       door = lab;
       written = outside.written;
@@ -55,4 +55,4 @@ Runs setup start old status new =
     ((status ≡ 4) × (new ≡ old))
     ⊎ ((end : SessionEnd) × (lab : Laboratory) × (status ≡ status_of end)
     × IsTalk 0 old.unread new.unread
-    (place_of (opening (start_of setup.size start) setup.cap) old) end (place_of lab new))
+    (session_place (opening (starting_gas setup.size start) setup.cap) old) end (session_place lab new))

@@ -3,10 +3,10 @@ use Rattle.std.specs.Prelude.{ℕ}
 use Rattle.gas_run.specs.declared.status.Status.{Status}
 use Rattle.gas_run.specs.declared.status.Status.TheVariants.{Done, Failed, NoPlan, NotLoaded, NoMemory, BadLine}
 
-abbrev pub number_of : Status → ℕ
-number_of Done = 0
-number_of Failed = 1
-number_of NoPlan = 2
-number_of NotLoaded = 3
-number_of NoMemory = 4
-number_of BadLine = 5
+abbrev pub status_number : Status → ℕ
+status_number Done = 0
+status_number Failed = 1
+status_number NoPlan = 2
+status_number NotLoaded = 3
+status_number NoMemory = 4
+status_number BadLine = 5

@@ -3,8 +3,8 @@
 ghost use Rattle.std.specs.Prelude.{◌≡◌, IfOk};
 ghost use Rattle.gas_terms.specs.Laboratory.{opening};
 ghost use Rattle.gas_run.specs.Plans.{IsInRange};
-ghost use Rattle.gas_run.specs.Running.{Runs, status_of, start_of, outside};
-ghost use Rattle.gas_run.specs.Statuses.{number_of};
+ghost use Rattle.gas_run.specs.Running.{Runs, status_of, starting_gas, outside};
+ghost use Rattle.gas_run.specs.Statuses.{status_number};
 
 use crate::setup::Setup;
 use crate::status::Status;
@@ -22,7 +22,7 @@ use std::time::Clock;
 
 /// The program's exit status after a session that ended so.
 fn status_of(end: SessionEnd) -> Status
-    ensures { number_of result ≡ status_of end }
+    ensures { status_number result ≡ status_of end }
 {
     match end {
         SessionEnd::Quit | SessionEnd::InputEnd => Status::Done,
@@ -41,7 +41,7 @@ pub fn opened<S: Stepper>(
     stepper: S,
 ) -> Result<Lab<S>, NoMemory>
     requires { IsInRange setup }
-    ensures { IfOk result (λ lab. lab ≡ opening (start_of setup.size start) setup.cap) }
+    ensures { IfOk result (λ lab. lab ≡ opening (starting_gas setup.size start) setup.cap) }
 {
     let start = match start {
         Some(gas) => gas,

@@ -1,7 +1,7 @@
 //! The program's exit statuses.
 
 ghost use Rattle.std.specs.Prelude.{◌≡◌};
-ghost use Rattle.gas_run.specs.Statuses.{number_of};
+ghost use Rattle.gas_run.specs.Statuses.{status_number};
 
 /// How the program has ended. The script `gaslab` has one more, 6: there was no program to run.
 #[derive(Clone, Copy, Debug, PartialEq, Eq)]
@@ -23,7 +23,7 @@ pub enum Status {
 impl Status {
     /// The exit status as a number.
     pub fn number(self) -> u8
-        ensures { result ≡ number_of self }
+        ensures { result ≡ status_number self }
     {
         match self {
             Status::Done => 0,

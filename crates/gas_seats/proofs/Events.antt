@@ -11,7 +11,7 @@ use Rattle.gas_terms.specs.declared.command.Entry.{Entry}
 use Rattle.gas_terms.specs.declared.answer.Answer.{Answer}
 use Rattle.gas_terms.specs.declared.answer.Answer.TheVariants.{Taken}
 use Rattle.gas_terms.specs.declared.refusal.Refusal.{Refusal}
-use Rattle.gas_seats.specs.Seats.{taken}
+use Rattle.gas_seats.specs.Seats.{entries_told}
 
 pub record Extends (entry : Entry) (old : Laboratory) (reply : Result Answer Refusal) (new : Laboratory) : Type 0 where
   pub start : new.start ≡ old.start
@@ -19,11 +19,11 @@ pub record Extends (entry : Entry) (old : Laboratory) (reply : Result Answer Ref
   pub added : List Entry
   pub journal : new.journal ≡ old.journal ++ added
   pub own : All (λ (e : Entry). e.seat ≡ entry.seat) added
-  pub told : length added ≡ taken reply
+  pub told : length added ≡ entries_told reply
   pub receipt : (k : ℕ) → reply ≡ Ok (Taken k) → (k ≡ length old.journal) × (added ≡ entry ∷ [])
 
 -- what is refused, and a reading, leaves it
-left : (entry : Entry) (lab : Laboratory) (reply : Result Answer Refusal) → taken reply ≡ 0 → Extends entry lab reply lab
+left : (entry : Entry) (lab : Laboratory) (reply : Result Answer Refusal) → entries_told reply ≡ 0 → Extends entry lab reply lab
 left entry lab reply none = record {
   start = refl;
   cap = refl;
@@ -31,7 +31,7 @@ left entry lab reply none = record {
   journal = sym (append-nil lab.journal);
   own = All-nil _;
   told = sym none;
-  receipt = λ k h. absurd (let one = ap taken h in omega (arith, none, one));
+  receipt = λ k h. absurd (let one = ap entries_told h in omega (arith, none, one));
 }
 
 more : (lab : Laboratory) (entry : Entry) (reply : Result Answer Refusal) → reply ≡ Ok (Taken (length lab.journal)) → Extends entry lab reply (accepted lab entry)
@@ -41,7 +41,7 @@ more lab entry reply is = record {
   added = entry ∷ [];
   journal = refl;
   own = All-cons (λ (e : Entry). e.seat ≡ entry.seat) entry [] refl (All-nil _);
-  told = sym (ap taken is);
+  told = sym (ap entries_told is);
   receipt = λ k h. (let same : Ok (Taken k) ≡ Ok (Taken (length lab.journal)) = sym h ∙ is in cc same, refl);
 }
 

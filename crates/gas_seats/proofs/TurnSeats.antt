@@ -13,7 +13,7 @@ use Rattle.gas_terms.specs.declared.answer.Answer.{Answer}
 use Rattle.gas_terms.specs.declared.refusal.Refusal.{Refusal}
 use Rattle.gas_lab.specs.declared.door.Copied.{Copied}
 use Rattle.gas_lab.specs.Copying.{Copies}
-use Rattle.gas_seats.specs.Seats.{taken}
+use Rattle.gas_seats.specs.Seats.{entries_told}
 use Rattle.gas_seats.specs.TurnSeats.{TurnSeatView, Continues, AsksInTurn, CopiesInTurn}
 use Rattle.gas_terms.specs.Laboratory.{made_by}
 use Rattle.gas_seats.proofs.Events.{applies_extends}
@@ -72,7 +72,7 @@ module _ {X : Type 0} (lab : X → Laboratory) where
 
   pub keeps_asking : (d new : DoorView Entry (Gas × ℕ)) (number made told : ℕ) (size : Extent) (x y : X) (command : Command) (reply : Result Answer Refusal)
       → Keeps d number size made → Found d x → length (lab y).journal ≤ 65536
-      → Applies (lab x) (record { seat = d.number; command = command }) reply (lab y) → new ≡ record d { seen = (lab y).journal } → told ≡ taken reply
+      → Applies (lab x) (record { seat = d.number; command = command }) reply (lab y) → new ≡ record d { seen = (lab y).journal } → told ≡ entries_told reply
       → Keeps new number size (made + told)
   keeps_asking d new number made told size x y command reply keeps found few applies now one =
       let grown = applies_extends (lab x) number command reply (lab y) (subst (λ n. Applies (lab x) (record { seat = n; command = command }) reply (lab y)) keeps.0 applies) in

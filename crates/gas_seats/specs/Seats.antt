@@ -5,8 +5,8 @@ use Rattle.gas_terms.specs.declared.answer.Answer.TheVariants.{Taken}
 use Rattle.gas_terms.specs.declared.refusal.Refusal.{Refusal}
 
 -- how many seats a hall has at most
-abbrev pub most_seats : ℕ
-most_seats = 64
+abbrev pub most_hall_seats : ℕ
+most_hall_seats = 64
 
 -- the greatest number that an entry of the journal may tell of its seat
 abbrev pub most_number : ℕ
@@ -17,6 +17,6 @@ abbrev pub AreNumbered : {X : Type 0} → ℕ → (ℕ → X) → List X → Typ
 AreNumbered n rule xs = (i : ℕ) → i < n → slice_get xs i ≡ Some (rule i)
 
 -- how many entries a reply tells of
-abbrev pub taken : Result Answer Refusal → ℕ
-taken (Ok (Taken k)) = 1
-taken _ = 0
+abbrev pub entries_told : Result Answer Refusal → ℕ
+entries_told (Ok (Taken k)) = 1
+entries_told _ = 0

@@ -5,7 +5,7 @@ ghost use Rattle.std.specs.Prelude.{◌≡◌, ◌<◌, ◌≤◌, ◌⊎◌, []
 ghost use Rattle.gas_terms.specs.Cells.{extent};
 ghost use Rattle.gas_terms.specs.Commands.{fits};
 ghost use Rattle.gas_terms.specs.Laboratory.{most_entries, IsPrefix, made_by};
-ghost use Rattle.gas_seats.specs.Seats.{AreNumbered, most_seats};
+ghost use Rattle.gas_seats.specs.Seats.{AreNumbered, most_hall_seats};
 ghost use Rattle.gas_seats.specs.TurnSeats.{TurnSeatView, TurnNoteView, entries_made, opening_seat, AsksInTurn, CopiesInTurn};
 
 use crate::entries::entries_of;
@@ -130,7 +130,7 @@ impl<S: Stepper> TurnHall<S> {
         lab: Lab<S>,
         seats: u16,
     ) -> Result<(TurnHall<S>, Vec<TurnSeat<S>>), Lab<S>>
-        requires seats { (0 < seats) × (seats ≤ most_seats) }
+        requires seats { (0 < seats) × (seats ≤ most_hall_seats) }
         requires lab { lab.journal ≡ [] }
         ensures count { IfOk result (λ r. vec_len r.1 ≡ seats) }
         ensures seats { IfOk result (λ r. AreNumbered seats (opening_seat r.0 lab) r.1.items) }

@@ -15,12 +15,12 @@ use Rattle.gas_terms.specs.Gas.{Gas, Source}
 use Rattle.gas_terms.specs.Commands.{is_period}
 use Rattle.gas_plane.specs.Planes.{IsLattice}
 use Rattle.gas_ledger.specs.PortLists.{PortLists, IsPortSet, LieWithin}
-use Rattle.gas_ledger.specs.Gases.{FitTogether, IsSoundGas, gas_of, no_cells, ports_of}
+use Rattle.gas_ledger.specs.Gases.{FitTogether, IsSoundGas, gas_of, no_cells_of_size, ports_of}
 use Rattle.gas_snapshot.specs.declared.version.Version.{Version}
 use Rattle.gas_snapshot.specs.declared.version.Version.TheVariants.{One, Two}
 use Rattle.gas_snapshot.specs.declared.fault.SnapFault.{SnapFault}
 use Rattle.gas_snapshot.specs.declared.fault.SnapFault.TheVariants.{Short, Trailing}
-use Rattle.gas_snapshot.specs.Spelling.{head, rows, obstacle_rows, spelling, HasSpelling, Spells, Allows}
+use Rattle.gas_snapshot.specs.Spelling.{head, cell_rows, obstacle_rows, spelling, HasSpelling, Spells, Allows}
 use Rattle.gas_snapshot.specs.Reading.{◌>>=◌, Head, field_at, is_size_of, head_at, cells_in, cells_at, obstacles_at, obstacles_in, layers, body_at, reading, Gives}
 use Rattle.gas_snapshot.proofs.FieldLaws.{IsBytes, IsBytes-take, IsBytes-drop, bind_ok, done, ok_is, suits}
 use Rattle.gas_snapshot.proofs.HeadLaws.{head_text, made_head, HeadFits, PortsFit, head_takes, head_again, size_of}
@@ -66,7 +66,7 @@ is_zero n e = eq-eqb n 0 e
 
 obstacles_long : (v : Version) (h : Head) (p w : Cells) (bytes : List ℕ) → (layers v - 2) * part h.size < length bytes → (obstacles_at v h.size bytes >>= ended h p w) ≡ Err Trailing
 unfolding obstacles_at
-obstacles_long One h p w bytes lt = ap (λ (b : Bool). cond b (done (gas_of h.tick p w (no_cells h.size) h.ports)) (Err Trailing)) (pos_not_zero (length bytes) (omega arith))
+obstacles_long One h p w bytes lt = ap (λ (b : Bool). cond b (done (gas_of h.tick p w (no_cells_of_size h.size) h.ports)) (Err Trailing)) (pos_not_zero (length bytes) (omega arith))
 obstacles_long Two h p w bytes lt = grind (arith, cells_there, done, pos_not_zero, length-drop)
 
 whole_taken : (n : ℕ) (bytes : List ℕ) → length bytes ≡ n → take n bytes ≡ bytes
@@ -74,7 +74,7 @@ whole_taken n bytes e = ap (λ (i : ℕ). take i bytes) (sym e) ∙ take-length 
 
 obstacles_whole : (v : Version) (h : Head) (p w : Cells) (bytes : List ℕ) → length bytes ≡ (layers v - 2) * part h.size → (obstacles_at v h.size bytes >>= ended h p w) ≡ Ok (gas_of h.tick p w (obstacles_in v h.size bytes) h.ports)
 unfolding obstacles_at
-obstacles_whole One h p w bytes e = ap (λ (b : Bool). cond b (done (gas_of h.tick p w (no_cells h.size) h.ports)) (Err Trailing)) (is_zero (length bytes) (omega arith))
+obstacles_whole One h p w bytes e = ap (λ (b : Bool). cond b (done (gas_of h.tick p w (no_cells_of_size h.size) h.ports)) (Err Trailing)) (is_zero (length bytes) (omega arith))
 obstacles_whole Two h p w bytes e =
     let len : length bytes ≡ part h.size = omega arith in
     ap (λ (r : Result (Cells × List ℕ) SnapFault). r >>= ended h p w) (cells_there h.size bytes (omega arith))
@@ -135,7 +135,7 @@ joined : (n : ℕ) (bytes a b d : List ℕ) → a ≡ take n bytes → b ≡ tak
 joined n bytes a b d p q r = grind (arith, take-append-drop)
 
 body_text : (h : Head) (bytes : List ℕ) → h.size.width % 8 ≡ 0 → IsBytes bytes → length bytes ≡ layers h.version * part h.size
-    → rows (gas_with h bytes).particles ++ (rows (gas_with h bytes).walls ++ obstacle_rows h.version (gas_with h bytes).obstacles) ≡ bytes
+    → cell_rows (gas_with h bytes).particles ++ (cell_rows (gas_with h bytes).walls ++ obstacle_rows h.version (gas_with h bytes).obstacles) ≡ bytes
 body_text h bytes even fits e =
     let n = part h.size in
     let k = two_layers h.version n in
@@ -144,7 +144,7 @@ body_text h bytes even fits e =
     let first = written_again h.size (take n bytes) even (omega (arith, length-take n bytes)) (IsBytes-take n bytes fits) in
     let second = written_again h.size (take n (drop n bytes)) even (omega (arith, length-take n (drop n bytes))) (IsBytes-take n (drop n bytes) fits1) in
     let third = layer_texts h.version h.size (drop n (drop n bytes)) even (IsBytes-drop n (drop n bytes) fits1) (omega (arith, length-drop n (drop n bytes))) in
-    joined n bytes (rows (cells_in h.size (take n bytes))) (rows (cells_in h.size (take n (drop n bytes)))) (obstacle_rows h.version (obstacles_in h.version h.size (drop n (drop n bytes)))) first second third
+    joined n bytes (cell_rows (cells_in h.size (take n bytes))) (cell_rows (cells_in h.size (take n (drop n bytes)))) (obstacle_rows h.version (obstacles_in h.version h.size (drop n (drop n bytes)))) first second third
 
 -- what the version allows
 allowed : (v : Version) (size : Extent) (g : Gas) (bytes : List ℕ) → is_size_of v size ≡ true → g.particles.width ≡ size.width → g.particles.height ≡ size.height → g.obstacles ≡ obstacles_in v size bytes → Allows v g
@@ -194,7 +194,7 @@ read_is_sound h bytes fit =
 abbrev head_of : Version → Gas → Head
 head_of v g = made_head v (extent g.particles) g.tick (ports_of g)
 
-spelling_is : (v : Version) (g : Gas) → spelling v g ≡ head_text (head_of v g) ++ (rows g.particles ++ (rows g.walls ++ obstacle_rows v g.obstacles))
+spelling_is : (v : Version) (g : Gas) → spelling v g ≡ head_text (head_of v g) ++ (cell_rows g.particles ++ (cell_rows g.walls ++ obstacle_rows v g.obstacles))
 unfolding spelling head
 spelling_is v g = simp append_assoc
 
@@ -220,16 +220,16 @@ reading_takes bytes g fits e =
 pub same_extent : (a b : Cells) → HasSidesOf a b → extent a ≡ extent b
 same_extent a b e = ap (λ (w : ℕ). made_extent w a.height) e.wide ∙ ap (λ (h : ℕ). made_extent b.width h) e.high
 
-pub length_of_rows : (cells : Cells) → length (rows cells) ≡ part (extent cells)
-unfolding rows
+pub length_of_rows : (cells : Cells) → length (cell_rows cells) ≡ part (extent cells)
+unfolding cell_rows
 length_of_rows cells = length_rows (row_bytes cells) (cells.width / 8) 0 cells.height (length-row_bytes cells)
 
-lattice_again : (size : Extent) (cells : Cells) → IsLattice cells → extent cells ≡ size → cells_in size (rows cells) ≡ cells
-lattice_again size cells lattice e = ap (λ (s : Extent). cells_in s (rows cells)) (sym e) ∙ read_again cells lattice.full (is_even (extent cells) lattice.sized)
+lattice_again : (size : Extent) (cells : Cells) → IsLattice cells → extent cells ≡ size → cells_in size (cell_rows cells) ≡ cells
+lattice_again size cells lattice e = ap (λ (s : Extent). cells_in s (cell_rows cells)) (sym e) ∙ read_again cells lattice.full (is_even (extent cells) lattice.sized)
 
 obstacles_again : (v : Version) (size : Extent) (g : Gas) → IsLattice g.obstacles → extent g.obstacles ≡ size → extent g.particles ≡ size → Allows v g → obstacles_in v size (obstacle_rows v g.obstacles) ≡ g.obstacles
 unfolding obstacle_rows
-obstacles_again One size g lattice e f ok = ap no_cells (sym f) ∙ sym ok.unobstructed
+obstacles_again One size g lattice e f ok = ap no_cells_of_size (sym f) ∙ sym ok.unobstructed
 obstacles_again Two size g lattice e f ok = lattice_again size g.obstacles lattice e
 
 obstacles_long_as : (v : Version) (cells : Cells) → length (obstacle_rows v cells) ≡ (layers v - 2) * part (extent cells)
@@ -252,15 +252,15 @@ suiting size (s ∷ ss) a b = (and_from (lies_within size s.area) (is_period s.p
 fitting : (v : Version) (g : Gas) → HasSpelling v g → HeadFits (head_of v g)
 fitting v g has = grind (arith, fitting_size, and_from, le-leb, recursion_from_All, suiting)
 
-body_again : (v : Version) (g : Gas) → HasSpelling v g → body_at (head_of v g) (rows g.particles ++ (rows g.walls ++ obstacle_rows v g.obstacles)) ≡ Ok g
+body_again : (v : Version) (g : Gas) → HasSpelling v g → body_at (head_of v g) (cell_rows g.particles ++ (cell_rows g.walls ++ obstacle_rows v g.obstacles)) ≡ Ok g
 body_again v g has =
     let h = head_of v g in
     let n = part h.size in
     let sound = has.sound in
     let walls_size = same_extent g.walls g.particles sound.fit.walls_sides in
     let obstacles_size = same_extent g.obstacles g.particles sound.fit.obstacles_sides in
-    let p = rows g.particles in
-    let w = rows g.walls in
+    let p = cell_rows g.particles in
+    let w = cell_rows g.walls in
     let o = obstacle_rows v g.obstacles in
     let p_len : length p ≡ n = length_of_rows g.particles in
     let w_len : length w ≡ n = length_of_rows g.walls ∙ ap part walls_size in
@@ -280,7 +280,7 @@ unfolding reading
 reading_again v g has =
     let h = head_of v g in
     ap (λ (b : List ℕ). head_at b >>= λ h. body_at h.0 h.1) (spelling_is v g)
-    ∙ ap (λ (r : Result (Head × List ℕ) SnapFault). r >>= λ h. body_at h.0 h.1) (head_again h (rows g.particles ++ (rows g.walls ++ obstacle_rows v g.obstacles)) (fitting v g has))
+    ∙ ap (λ (r : Result (Head × List ℕ) SnapFault). r >>= λ h. body_at h.0 h.1) (head_again h (cell_rows g.particles ++ (cell_rows g.walls ++ obstacle_rows v g.obstacles)) (fitting v g has))
     ∙ body_again v g has
 
 pub reading_spelled : (bytes : List ℕ) (g : Gas) → Spells bytes g → reading bytes ≡ Ok g
@@ -340,19 +340,19 @@ fits_together bytes h rest p w o first second third fits e a b d =
 pub same_gas : (bytes : List ℕ) (g h : Gas) → Spells bytes g → Spells bytes h → g ≡ h
 same_gas bytes g h s t = ok_is g h (sym (reading_spelled bytes g s) ∙ reading_spelled bytes h t)
 
-head_is_read : (bytes : List ℕ) (g : Gas) (s : Spells bytes g) → head_at bytes ≡ Ok (head_of s.version g, rows g.particles ++ (rows g.walls ++ obstacle_rows s.version g.obstacles))
+head_is_read : (bytes : List ℕ) (g : Gas) (s : Spells bytes g) → head_at bytes ≡ Ok (head_of s.version g, cell_rows g.particles ++ (cell_rows g.walls ++ obstacle_rows s.version g.obstacles))
 head_is_read bytes g s =
     ap head_at (s.parts ∙ spelling_is s.version g)
-    ∙ head_again (head_of s.version g) (rows g.particles ++ (rows g.walls ++ obstacle_rows s.version g.obstacles)) (fitting s.version g s.has)
+    ∙ head_again (head_of s.version g) (cell_rows g.particles ++ (cell_rows g.walls ++ obstacle_rows s.version g.obstacles)) (fitting s.version g s.has)
 
 pub same_version : (bytes : List ℕ) (g h : Gas) (s : Spells bytes g) (t : Spells bytes h) → s.version ≡ t.version
 same_version bytes g h s t =
     ap (λ (x : Head × List ℕ). x.0.version)
-    (ok_is (head_of s.version g, rows g.particles ++ (rows g.walls ++ obstacle_rows s.version g.obstacles)) (head_of t.version h, rows h.particles ++ (rows h.walls ++ obstacle_rows t.version h.obstacles))
+    (ok_is (head_of s.version g, cell_rows g.particles ++ (cell_rows g.walls ++ obstacle_rows s.version g.obstacles)) (head_of t.version h, cell_rows h.particles ++ (cell_rows h.walls ++ obstacle_rows t.version h.obstacles))
     (sym (head_is_read bytes g s) ∙ head_is_read bytes h t))
 
 -- ---- as the code writes
 
-pub spelling_two : (g : Gas) → spelling Two g ≡ ((head Two g ++ rows g.particles) ++ rows g.walls) ++ rows g.obstacles
+pub spelling_two : (g : Gas) → spelling Two g ≡ ((head Two g ++ cell_rows g.particles) ++ cell_rows g.walls) ++ cell_rows g.obstacles
 unfolding spelling obstacle_rows
 spelling_two g = simp append_assoc

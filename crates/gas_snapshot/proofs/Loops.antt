@@ -4,6 +4,7 @@ use Rattle.std.proofs.lemmas.List.{append-nil}
 use Rattle.gas_terms.specs.Cells.{Extent, Rectangle, lies_within}
 use Rattle.gas_terms.specs.Gas.{Source}
 use Rattle.gas_terms.specs.Commands.{is_period}
+use Rattle.gas_snapshot.proofs.FieldLaws.{done}
 use Rattle.gas_snapshot.specs.declared.fault.SnapFault.{SnapFault}
 use Rattle.gas_snapshot.specs.declared.fault.SnapFault.TheVariants.{Port}
 use Rattle.gas_snapshot.specs.Reading.{◌>>=◌, many, field_at, area_in, source_in, number, drain_at, source_at}
@@ -39,9 +40,6 @@ is_done {A = A} one_at front count i bytes total le so_far =
 picked : {A : Type 0} (b : Bool) (x y : A) → Some x ≡ cond b (Some y) None → (b ≡ true) × (x ≡ y)
 picked true x y e = (refl, cc)
 picked false x y e = absurd cc
-
-abbrev pub done : {A : Type 0} → A → Result A SnapFault
-done x = Ok x
 
 abbrev failed : (A : Type 0) → SnapFault → Result A SnapFault
 failed A f = Err f

@@ -8,7 +8,7 @@ use Rattle.std.proofs.lemmas.List.{flat_map_more, take_more, length-append, leng
 use Rattle.gas_terms.specs.Cells.{Cells, Rectangle}
 use Rattle.gas_terms.specs.Gas.{Gas, Source}
 use Rattle.gas_snapshot.specs.declared.version.Version.TheVariants.{Two}
-use Rattle.gas_snapshot.specs.Spelling.{magic, sides, moment, counts, drain, source, head, rows, spelling}
+use Rattle.gas_snapshot.specs.Spelling.{magic, sides, moment, counts, drain, source, head, cell_rows, spelling}
 
 pub area_put : (page : List ℕ) (r : Rectangle) → (((page ++ to_be_bytes w16 r.x) ++ to_be_bytes w16 r.y) ++ to_be_bytes w16 r.w) ++ to_be_bytes w16 r.h ≡ page ++ drain r
 unfolding drain
@@ -44,24 +44,24 @@ head_chain g p0 p1 p2 p3 p4 p5 p6 p7 rs os w h tick ew eh et er eo e0 e1 e2 e3 e
 
 -- the three sets after a head
 pub three_put : (g : Gas) (b0 b1 b2 b3 h : List ℕ) (n : ℕ) → n ≡ g.particles.height * (g.particles.width / 8) → length b3 ≡ length h + 3 * n → h ≡ head Two g → take (length h) b0 ≡ h
-    → take (length h + n) b1 ≡ take (length h) b0 ++ rows g.particles → take ((length h + n) + n) b2 ≡ take (length h + n) b1 ++ rows g.walls → take ((length h + 2 * n) + n) b3 ≡ take (length h + 2 * n) b2 ++ rows g.obstacles
+    → take (length h + n) b1 ≡ take (length h) b0 ++ cell_rows g.particles → take ((length h + n) + n) b2 ≡ take (length h + n) b1 ++ cell_rows g.walls → take ((length h + 2 * n) + n) b3 ≡ take (length h + 2 * n) b2 ++ cell_rows g.obstacles
     → b3 ≡ spelling Two g
 three_put g b0 b1 b2 b3 h n part len e f r1 r2 r3 =
     let k : (length h + n) + n ≡ length h + 2 * n = omega arith in
     let m : (length h + 2 * n) + n ≡ length b3 = omega arith in
-    let s1 : take (length h + n) b1 ≡ head Two g ++ rows g.particles = r1 ∙ ap (λ (l : List ℕ). l ++ rows g.particles) (f ∙ e) in
-    let s2 : take (length h + 2 * n) b2 ≡ (head Two g ++ rows g.particles) ++ rows g.walls = ap (λ (i : ℕ). take i b2) (sym k) ∙ r2 ∙ ap (λ (l : List ℕ). l ++ rows g.walls) s1 in
-    let s3 : take (length b3) b3 ≡ ((head Two g ++ rows g.particles) ++ rows g.walls) ++ rows g.obstacles = ap (λ (i : ℕ). take i b3) (sym m) ∙ r3 ∙ ap (λ (l : List ℕ). l ++ rows g.obstacles) s2 in
+    let s1 : take (length h + n) b1 ≡ head Two g ++ cell_rows g.particles = r1 ∙ ap (λ (l : List ℕ). l ++ cell_rows g.particles) (f ∙ e) in
+    let s2 : take (length h + 2 * n) b2 ≡ (head Two g ++ cell_rows g.particles) ++ cell_rows g.walls = ap (λ (i : ℕ). take i b2) (sym k) ∙ r2 ∙ ap (λ (l : List ℕ). l ++ cell_rows g.walls) s1 in
+    let s3 : take (length b3) b3 ≡ ((head Two g ++ cell_rows g.particles) ++ cell_rows g.walls) ++ cell_rows g.obstacles = ap (λ (i : ℕ). take i b3) (sym m) ∙ r3 ∙ ap (λ (l : List ℕ). l ++ cell_rows g.obstacles) s2 in
     sym (take-length b3) ∙ s3 ∙ sym (spelling_two g)
 
 pub all_put : (g : Gas) (p w o : Cells) (x b1 b2 b3 h : List ℕ) (n : ℕ) → p ≡ g.particles → w ≡ g.walls → o ≡ g.obstacles → n ≡ g.particles.height * (g.particles.width / 8) → length b3 ≡ length h + 3 * n → h ≡ head Two g
-    → take (length h + n) b1 ≡ x ++ rows p → take ((length h + n) + n) b2 ≡ take (length h + n) b1 ++ rows w → take ((length h + 2 * n) + n) b3 ≡ take (length h + 2 * n) b2 ++ rows o
+    → take (length h + n) b1 ≡ x ++ cell_rows p → take ((length h + n) + n) b2 ≡ take (length h + n) b1 ++ cell_rows w → take ((length h + 2 * n) + n) b3 ≡ take (length h + 2 * n) b2 ++ cell_rows o
     → x ≡ h → b3 ≡ spelling Two g
 all_put g p w o x b1 b2 b3 h n ep ew eo part len e r1 r2 r3 f =
     three_put g h b1 b2 b3 h n part len e (take-length h)
-    (r1 ∙ ap (λ (l : List ℕ). l ++ rows p) (f ∙ sym (take-length h)) ∙ ap (λ (c : Cells). take (length h) h ++ rows c) ep)
-    (r2 ∙ ap (λ (c : Cells). take (length h + n) b1 ++ rows c) ew)
-    (r3 ∙ ap (λ (c : Cells). take (length h + 2 * n) b2 ++ rows c) eo)
+    (r1 ∙ ap (λ (l : List ℕ). l ++ cell_rows p) (f ∙ sym (take-length h)) ∙ ap (λ (c : Cells). take (length h) h ++ cell_rows c) ep)
+    (r2 ∙ ap (λ (c : Cells). take (length h + n) b1 ++ cell_rows c) ew)
+    (r3 ∙ ap (λ (c : Cells). take (length h + 2 * n) b2 ++ cell_rows c) eo)
 
 pub copied_len : (new first out : List ℕ) (n : ℕ) → new ≡ first → length out ≡ length first + 3 * n → length (new ++ drop (length first) out) ≡ length first + 3 * n
 copied_len new first out n e room = ap (λ (l : List ℕ). length (l ++ drop (length first) out)) e ∙ omega (arith, length-append first (drop (length first) out), length-drop (length first) out)

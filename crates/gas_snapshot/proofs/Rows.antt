@@ -15,7 +15,7 @@ use Rattle.gas_terms.specs.Rows.{row_has, row_bytes, row_replaced}
 use Rattle.gas_terms.proofs.Cells.{has-cells_where, full-cells_where, same_cells, same_cells_where}
 use Rattle.gas_terms.proofs.Bytes.{length-row_bytes, row_has-row_bytes, row_bytes-row_replaced}
 use Rattle.gas_snapshot.proofs.FieldLaws.{IsBytes-take, IsBytes-drop}
-use Rattle.gas_snapshot.specs.Spelling.{rows}
+use Rattle.gas_snapshot.specs.Spelling.{cell_rows}
 use Rattle.gas_snapshot.specs.Reading.{cells_in}
 use Rattle.std.proofs.lemmas.Bool.{and_parts}
 
@@ -99,8 +99,8 @@ row_has_before : (x : ℕ) (first rest : List ℕ) → x / 8 < length first → 
 row_has_before x first rest lt = ap (λ (b : ℕ). eqb (b / 2 ^ (7 - x % 8) % 2) 1) (get_or_append_left first rest 0 (x / 8) lt)
 
 row_first : (cells : Cells) (y : ℕ) → y < cells.height
-    → drop (y * (cells.width / 8)) (rows cells) ≡ row_bytes cells y ++ flat_map (row_bytes cells) (range_with_len (y + 1) (cells.height - suc y))
-unfolding rows
+    → drop (y * (cells.width / 8)) (cell_rows cells) ≡ row_bytes cells y ++ flat_map (row_bytes cells) (range_with_len (y + 1) (cells.height - suc y))
+unfolding cell_rows
 row_first cells y lt =
     let k : y + suc (cells.height - suc y) ≡ cells.height = omega arith in
     ap (λ (h : ℕ). drop (y * (cells.width / 8)) (flat_map (row_bytes cells) (range_with_len 0 h))) (sym k)
@@ -131,13 +131,13 @@ own_row size field y even len fits lt =
     ap (λ (c : Cells). row_bytes c y) (sym same) ∙ row_bytes-row_replaced cells y bytes lt own (all_bytes bytes (λ i. part_fits size field y fits i))
 
 -- the set that is read from the rows of a set is that set
-pub read_again : (cells : Cells) → IsFull cells → cells.width % 8 ≡ 0 → cells_in (extent cells) (rows cells) ≡ cells
-unfolding rows
+pub read_again : (cells : Cells) → IsFull cells → cells.width % 8 ≡ 0 → cells_in (extent cells) (cell_rows cells) ≡ cells
+unfolding cell_rows
 read_again cells full even =
-    same_cells (cells_in (extent cells) (rows cells)) cells (full-cells_where cells.width cells.height (λ x y. row_has (drop (y * (cells.width / 8)) (rows cells)) x)) full refl refl
+    same_cells (cells_in (extent cells) (cell_rows cells)) cells (full-cells_where cells.width cells.height (λ x y. row_has (drop (y * (cells.width / 8)) (cell_rows cells)) x)) full refl refl
     (λ x y p q.
     let inside = byte_of_cell x cells.width p even in
-    has-cells_where cells.width cells.height (λ x y. row_has (drop (y * (cells.width / 8)) (rows cells)) x) x y p q
+    has-cells_where cells.width cells.height (λ x y. row_has (drop (y * (cells.width / 8)) (cell_rows cells)) x) x y p q
     ∙ ap (λ (bs : List ℕ). row_has bs x) (row_first cells y q)
     ∙ row_has_before x (row_bytes cells y) (flat_map (row_bytes cells) (range_with_len (y + 1) (cells.height - suc y))) (omega (arith, length-row_bytes cells y))
     ∙ row_has-row_bytes cells x y even p)
@@ -147,8 +147,8 @@ none_dropped len field = let k : 0 * len ≡ 0 = omega arith in ap (λ (n : ℕ)
 
 -- the rows of a set that was read are the bytes
 pub written_again : (size : Extent) (field : List ℕ) → size.width % 8 ≡ 0 → length field ≡ size.height * (size.width / 8) → ((i : ℕ) → get_or field i 0 < 256)
-    → rows (cells_in size field) ≡ field
-unfolding rows
+    → cell_rows (cells_in size field) ≡ field
+unfolding cell_rows
 written_again size field even len fits =
     pieces (row_bytes (cells_in size field)) (size.width / 8) field 0 size.height (len ∙ ap (λ (k : ℕ). k * (size.width / 8)) (omega arith))
     (λ y p q. own_row size field y even len fits (omega arith))
@@ -171,16 +171,16 @@ pub row_is_put : (cells : Cells) (out row : List ℕ) (n len k : ℕ) → row �
     → take (n * len) out ≡ flat_map (row_bytes cells) (range_with_len 0 n) → take ((n + 1) * len) (put_mid (n * len) k out row) ≡ flat_map (row_bytes cells) (range_with_len 0 (n + 1))
 row_is_put cells out row n len k e wide same lt fits so_far = grind (arith, mul-le-mul_right, length-row_bytes, take-put_mid, rows_more)
 
-pub all_put : (cells : Cells) (out : List ℕ) (n len h : ℕ) → len ≡ cells.width / 8 → h ≡ cells.height → h ≤ n → n ≤ h → length out ≡ cells.height * (cells.width / 8)
-    → take (n * len) out ≡ flat_map (row_bytes cells) (range_with_len 0 n) → out ≡ rows cells
-unfolding rows
-all_put cells out n len h wide high le ge fits so_far = grind (arith, take-length)
+pub all_rows_put : (cells : Cells) (out : List ℕ) (n len h : ℕ) → len ≡ cells.width / 8 → h ≡ cells.height → h ≤ n → n ≤ h → length out ≡ cells.height * (cells.width / 8)
+    → take (n * len) out ≡ flat_map (row_bytes cells) (range_with_len 0 n) → out ≡ cell_rows cells
+unfolding cell_rows
+all_rows_put cells out n len h wide high le ge fits so_far = grind (arith, take-length)
 
 -- the first n rows, and those below
-pub rows_cut : (cells : Cells) (n : ℕ) → n ≤ cells.height → rows cells ≡ flat_map (row_bytes cells) (range_with_len 0 n) ++ flat_map (row_bytes cells) (range_with_len n (cells.height - n))
-unfolding rows
+pub rows_cut : (cells : Cells) (n : ℕ) → n ≤ cells.height → cell_rows cells ≡ flat_map (row_bytes cells) (range_with_len 0 n) ++ flat_map (row_bytes cells) (range_with_len n (cells.height - n))
+unfolding cell_rows
 rows_cut cells n le = ap (flat_map (row_bytes cells)) (range_split 0 n (cells.height - n) cells.height n (omega arith) (omega arith)) ∙ flat_map-append (row_bytes cells) (range_with_len 0 n) (range_with_len n (cells.height - n))
 
-pub rows_all : (cells : Cells) (n h : ℕ) → h ≡ cells.height → h ≤ n → n ≤ h → flat_map (row_bytes cells) (range_with_len 0 n) ≡ rows cells
-unfolding rows
+pub rows_all : (cells : Cells) (n h : ℕ) → h ≡ cells.height → h ≤ n → n ≤ h → flat_map (row_bytes cells) (range_with_len 0 n) ≡ cell_rows cells
+unfolding cell_rows
 rows_all cells n h e le ge = let k : n ≡ cells.height = omega arith in ap (λ (i : ℕ). flat_map (row_bytes cells) (range_with_len 0 i)) k

@@ -5,7 +5,7 @@ use Rattle.gas_terms.specs.Cells.{Cells, Extent, Rectangle, cells_where, most_si
 use Rattle.gas_terms.specs.Rows.{row_has}
 use Rattle.gas_terms.specs.Commands.{is_tick, is_period}
 use Rattle.gas_terms.specs.Gas.{Gas, Source, most_ports}
-use Rattle.gas_ledger.specs.Gases.{gas_of, no_cells}
+use Rattle.gas_ledger.specs.Gases.{gas_of, no_cells_of_size}
 use Rattle.gas_ledger.specs.PortLists.{PortLists}
 use Rattle.gas_snapshot.specs.declared.version.Version.{Version}
 use Rattle.gas_snapshot.specs.declared.version.Version.TheVariants.{One, Two}
@@ -137,7 +137,7 @@ cells_at size bytes = do
 
 -- the first version has none
 unfoldable pub obstacles_at : Version → Extent → List ℕ → Result (Cells × List ℕ) SnapFault
-obstacles_at One size bytes = Ok (no_cells size, bytes)
+obstacles_at One size bytes = Ok (no_cells_of_size size, bytes)
 obstacles_at Two size bytes = cells_at size bytes
 
 -- how many sets of cells a version has, and what its third one is
@@ -146,7 +146,7 @@ layers One = 2
 layers Two = 3
 
 abbrev pub obstacles_in : Version → Extent → List ℕ → Cells
-obstacles_in One size bytes = no_cells size
+obstacles_in One size bytes = no_cells_of_size size
 obstacles_in Two size bytes = cells_in size bytes
 
 -- the cells, and nothing after them
@@ -165,9 +165,9 @@ reading bytes = do
   body_at head.0 head.1
 
 -- What a function returned, seen by view, is what reading gives.
-abbrev pub Reads : {X Y : Type 0} → (X → Y) → Result X SnapFault → Result Y SnapFault → Type 0
-Reads view (Ok x) read = read ≡ Ok (view x)
-Reads view (Err e) read = read ≡ Err e
+abbrev pub IsAsRead : {X Y : Type 0} → (X → Y) → Result X SnapFault → Result Y SnapFault → Type 0
+IsAsRead view (Ok x) read = read ≡ Ok (view x)
+IsAsRead view (Err e) read = read ≡ Err e
 
 -- The same, but memory may run out where there is no fault.
 abbrev pub Fails : {Y : Type 0} → SnapFault → Result Y SnapFault → Type 0

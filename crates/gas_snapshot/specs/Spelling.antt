@@ -5,7 +5,7 @@ use Rattle.std.specs.Int.{w16, w64, to_be_bytes, cast_unsigned}
 use Rattle.gas_terms.specs.Cells.{Cells, Extent, Rectangle, extent}
 use Rattle.gas_terms.specs.Rows.{row_bytes}
 use Rattle.gas_terms.specs.Gas.{Gas, Source}
-use Rattle.gas_ledger.specs.Gases.{IsSoundGas, no_cells}
+use Rattle.gas_ledger.specs.Gases.{IsSoundGas, no_cells_of_size}
 use Rattle.gas_snapshot.specs.declared.version.Version.{Version}
 use Rattle.gas_snapshot.specs.declared.version.Version.TheVariants.{One, Two}
 
@@ -38,17 +38,17 @@ head version g =
     ++ flat_map drain g.drains ++ flat_map source g.sources
 
 -- the rows from the upper one on
-unfoldable pub rows : Cells → List ℕ
-rows cells = flat_map (row_bytes cells) (range_with_len 0 cells.height)
+unfoldable pub cell_rows : Cells → List ℕ
+cell_rows cells = flat_map (row_bytes cells) (range_with_len 0 cells.height)
 
 -- obstacles have a place in the second version alone
 unfoldable pub obstacle_rows : Version → Cells → List ℕ
 obstacle_rows One cells = []
-obstacle_rows Two cells = rows cells
+obstacle_rows Two cells = cell_rows cells
 
 unfoldable pub spelling : Version → Gas → List ℕ
 spelling version g =
-    head version g ++ rows g.particles ++ rows g.walls ++ obstacle_rows version g.obstacles
+    head version g ++ cell_rows g.particles ++ cell_rows g.walls ++ obstacle_rows version g.obstacles
 
 -- how wide and how high a lattice of the first version is at most: `MOST_OLD_SIDE`
 abbrev pub most_old_side : ℕ
@@ -58,7 +58,7 @@ most_old_side = 2048
 pub record IsOld (g : Gas) : Type 0 where
   pub narrow : g.particles.width ≤ most_old_side
   pub low : g.particles.height ≤ most_old_side
-  pub unobstructed : g.obstacles ≡ no_cells (extent g.particles)
+  pub unobstructed : g.obstacles ≡ no_cells_of_size (extent g.particles)
 
 abbrev pub Allows : Version → Gas → Type 0
 Allows One g = IsOld g

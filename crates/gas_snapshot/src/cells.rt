@@ -1,7 +1,7 @@
 //! The cells of a plane as bytes, row by row.
 
 ghost use Rattle.std.specs.Prelude.{◌≡◌, ◌*◌, ◌/◌, IfOk, length};
-ghost use Rattle.gas_snapshot.specs.Spelling.{rows};
+ghost use Rattle.gas_snapshot.specs.Spelling.{cell_rows};
 ghost use Rattle.gas_snapshot.specs.Reading.{cells_in};
 
 use gas_plane::Plane;
@@ -25,7 +25,7 @@ pub fn plane_of(alloc: Global, size: Size, bytes: &[u8]) -> Result<Plane, NoMemo
 /// Writes all rows.
 pub fn put_rows(plane: &Plane, out: &mut [u8])
     requires { length out.old ≡ plane.now.height * (plane.now.width / 8) }
-    ensures { out.new ≡ rows plane.now }
+    ensures { out.new ≡ cell_rows plane.now }
 {
     let size = plane.size();
     let len = size.width() as usize / 8;

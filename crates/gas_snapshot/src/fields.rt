@@ -8,7 +8,7 @@ ghost use Rattle.gas_ledger.specs.PortLists.{no_ports};
 ghost use Rattle.gas_snapshot.specs.declared.version.Version.TheVariants.{One, Two};
 ghost use Rattle.gas_snapshot.specs.declared.fault.SnapFault.TheVariants.{Magic, Size as SizeFault, Tick as TickFault, Port as PortFault};
 ghost use Rattle.gas_snapshot.specs.Spelling.{magic};
-ghost use Rattle.gas_snapshot.specs.Reading.{Reads, magic_at, size_at, tick_at, counts_at, greatest_side, is_size_of, field_at, number, size_in, tick_in, are_few, counts_in, area_in, source_in, drain_at, source_at, many, ports_at, head_with, head_at};
+ghost use Rattle.gas_snapshot.specs.Reading.{IsAsRead, magic_at, size_at, tick_at, counts_at, greatest_side, is_size_of, field_at, number, size_in, tick_in, are_few, counts_in, area_in, source_in, drain_at, source_at, many, ports_at, head_with, head_at};
 
 use crate::fault::SnapFault;
 use crate::version::{MOST_OLD_SIDE, Version};
@@ -28,7 +28,7 @@ pub struct Head {
 }
 
 fn field(n: usize, bytes: &[u8]) -> Result<(&[u8], &[u8]), SnapFault>
-    ensures field { Reads (λ x. (x.0.now, x.1.now)) result (field_at n bytes.now) }
+    ensures field { IsAsRead (λ x. (x.0.now, x.1.now)) result (field_at n bytes.now) }
     ensures len { IfOk result (λ x. length x.0.now ≡ n) }
 {
     if bytes.len() < n {
@@ -142,7 +142,7 @@ fn drains<'a>(
 ) -> Result<&'a [u8], SnapFault>
     requires few { count ≤ most_ports }
     requires none { ports.old.drains ≡ [] }
-    ensures drains { Reads (λ x. (ports.new.drains, x.now)) result
+    ensures drains { IsAsRead (λ x. (ports.new.drains, x.now)) result
         (many (drain_at size) count bytes.now) }
     ensures sources { ports.new.sources ≡ ports.old.sources }
 {
@@ -166,7 +166,7 @@ fn sources<'a>(
 ) -> Result<&'a [u8], SnapFault>
     requires few { count ≤ most_ports }
     requires none { ports.old.sources ≡ [] }
-    ensures sources { Reads (λ x. (ports.new.sources, x.now)) result
+    ensures sources { IsAsRead (λ x. (ports.new.sources, x.now)) result
         (many (source_at size) count bytes.now) }
     ensures drains { ports.new.drains ≡ ports.old.drains }
 {
@@ -190,7 +190,7 @@ fn add_ports<'a>(
     requires drains { counts.0 ≤ most_ports }
     requires sources { counts.1 ≤ most_ports }
     requires none { ports.old ≡ no_ports }
-    ensures { Reads (λ x. (ports.new, x.now)) result (ports_at size counts bytes.now) }
+    ensures { IsAsRead (λ x. (ports.new, x.now)) result (ports_at size counts bytes.now) }
 {
     let rest = drains(size, counts.0, ports, bytes)?;
     let rest = sources(size, counts.1, ports, rest)?;
@@ -199,7 +199,7 @@ fn add_ports<'a>(
 
 #[tactic(auto, unfolding(crate::specs::Reading::magic_at))]
 fn read_version(bytes: &[u8]) -> Result<(Version, &[u8]), SnapFault>
-    ensures { Reads (λ x. (x.0, x.1.now)) result (magic_at bytes.now) }
+    ensures { IsAsRead (λ x. (x.0, x.1.now)) result (magic_at bytes.now) }
 {
     let (magic, rest) = field(8, bytes)?;
     Ok((version(magic)?, rest))
@@ -207,7 +207,7 @@ fn read_version(bytes: &[u8]) -> Result<(Version, &[u8]), SnapFault>
 
 #[tactic(auto, unfolding(crate::specs::Reading::size_at))]
 fn read_size(version: Version, bytes: &[u8]) -> Result<(Size, &[u8]), SnapFault>
-    ensures { Reads (λ x. (x.0, x.1.now)) result (size_at version bytes.now) }
+    ensures { IsAsRead (λ x. (x.0, x.1.now)) result (size_at version bytes.now) }
 {
     let (sides, rest) = field(4, bytes)?;
     Ok((size(version, sides)?, rest))
@@ -215,7 +215,7 @@ fn read_size(version: Version, bytes: &[u8]) -> Result<(Size, &[u8]), SnapFault>
 
 #[tactic(auto, unfolding(crate::specs::Reading::tick_at))]
 fn read_tick(bytes: &[u8]) -> Result<(Tick, &[u8]), SnapFault>
-    ensures { Reads (λ x. (x.0, x.1.now)) result (tick_at bytes.now) }
+    ensures { IsAsRead (λ x. (x.0, x.1.now)) result (tick_at bytes.now) }
 {
     let (moment, rest) = field(8, bytes)?;
     Ok((tick(moment)?, rest))
@@ -223,7 +223,7 @@ fn read_tick(bytes: &[u8]) -> Result<(Tick, &[u8]), SnapFault>
 
 #[tactic(auto, unfolding(crate::specs::Reading::counts_at))]
 fn read_counts(bytes: &[u8]) -> Result<((u8, u8), &[u8]), SnapFault>
-    ensures counts { Reads (λ x. (x.0, x.1.now)) result (counts_at bytes.now) }
+    ensures counts { IsAsRead (λ x. (x.0, x.1.now)) result (counts_at bytes.now) }
     ensures few { IfOk result (λ x. are_few x.0 ≡ true) }
 {
     let (numbers, rest) = field(2, bytes)?;
@@ -234,7 +234,7 @@ fn read_counts(bytes: &[u8]) -> Result<((u8, u8), &[u8]), SnapFault>
 #[tactic(auto, unfolding(crate::specs::Reading::head_at))]
 pub fn read_head<'a>(bytes: &'a [u8], ports: &mut Ports) -> Result<(Head, &'a [u8]), SnapFault>
     requires { ports.old ≡ no_ports }
-    ensures { Reads (λ x. (head_with x.0 ports.new, x.1.now)) result (head_at bytes.now) }
+    ensures { IsAsRead (λ x. (head_with x.0 ports.new, x.1.now)) result (head_at bytes.now) }
 {
     let (version, rest) = read_version(bytes)?;
     let (size, rest) = match read_size(version, rest) {

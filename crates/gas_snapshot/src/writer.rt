@@ -3,7 +3,7 @@
 ghost use Rattle.std.specs.Prelude.{◌≡◌, length, IfOk, OnOk, OnErr};
 ghost use Rattle.std.specs.Io.KnownBytes.{Appends};
 ghost use Rattle.gas_snapshot.specs.declared.version.Version.TheVariants.{Two};
-ghost use Rattle.gas_snapshot.specs.Spelling.{rows, spelling};
+ghost use Rattle.gas_snapshot.specs.Spelling.{cell_rows, spelling};
 ghost use Rattle.byte_page.specs.Written.{WritesFront};
 
 use crate::page::head_of;
@@ -15,9 +15,9 @@ use std::io::Write;
 
 fn write_rows<W: Write>(writer: &mut W, plane: &Plane) -> Result<(), WriteFault>
     ensures ok { OnOk result
-        (Appends (W.contents writer.old) (W.contents writer.new) (rows plane.now)) }
+        (Appends (W.contents writer.old) (W.contents writer.new) (cell_rows plane.now)) }
     ensures err { OnErr result
-        (WritesFront (W.contents writer.old) (W.contents writer.new) (rows plane.now)) }
+        (WritesFront (W.contents writer.old) (W.contents writer.new) (cell_rows plane.now)) }
 {
     let size = plane.size();
     let len = size.width() as usize / 8;

@@ -3,7 +3,7 @@
 ghost use Rattle.std.specs.Prelude.{◌≡◌, ◌≤◌, ◌+◌, ◌*◌, ◌/◌, ◌++◌, IfOk, length, take};
 ghost use Rattle.gas_ledger.specs.Gases.{IsSoundGas};
 ghost use Rattle.gas_snapshot.specs.declared.version.Version.TheVariants.{Two};
-ghost use Rattle.gas_snapshot.specs.Spelling.{rows, head, spelling};
+ghost use Rattle.gas_snapshot.specs.Spelling.{cell_rows, head, spelling};
 
 use crate::cells::put_rows;
 use crate::page::head_of;
@@ -16,7 +16,7 @@ use std::alloc::Global;
 fn put_plane(plane: &Plane, at: usize, part: usize, out: &mut [u8])
     requires part { part ≡ plane.now.height * (plane.now.width / 8) }
     requires room { at + part ≤ length out.old }
-    ensures { take (at + part) out.new ≡ take at out.old ++ rows plane.now }
+    ensures { take (at + part) out.new ≡ take at out.old ++ cell_rows plane.now }
 {
     put_rows(plane, &mut out[at..at + part]);
 }

@@ -18,7 +18,7 @@ use Rattle.gas_talk.proofs.Cutting.{lines_nil}
 use Rattle.gas_talk.proofs.ScriptLines.{line_first, command_is_line}
 use Rattle.gas_text.specs.declared.reply.Reply.TheVariants.{Answered}
 use Rattle.gas_talk.specs.Ends.{until_end}
-use Rattle.gas_talk.specs.LabTalk.{plain, taken_at, talk}
+use Rattle.gas_talk.specs.LabTalk.{plain, talk_of_item, talk}
 use Rattle.gas_talk.specs.Lines.{Item, text, lines}
 use Rattle.gas_talk.specs.Scripts.{script, all_plain, asked_by_script, taken_from, made_alone}
 use Rattle.gas_talk.specs.Talk.{no_put, TalkLine}
@@ -88,7 +88,7 @@ abbrev talk_line_of : ℕ → Entry → TalkLine
 talk_line_of k entry = record { item = item_of entry; reply = Answered (Taken k); put = no_put }
 
 talk_line_there : (lab : Laboratory) (seat cap : ℕ) (entry : Entry) → is_size (extent lab.start.particles) ≡ true → IsAcceptable lab entry → Typed entry → length lab.journal < cap →
-    taken_at seat (made_alone seat cap lab) (item_of entry) plain ≡ (talk_line_of (length lab.journal) entry, made_alone seat cap (accepted lab entry))
+    talk_of_item seat (made_alone seat cap lab) (item_of entry) plain ≡ (talk_line_of (length lab.journal) entry, made_alone seat cap (accepted lab entry))
 talk_line_there lab seat cap entry sized stands typed room = grind (arith, command_again, is_some, no_cause_there, taken_answer, length-map, map-append)
 
 talk_there : (journal : List Entry) (lab : Laboratory) (seat cap : ℕ) → is_size (extent lab.start.particles) ≡ true → Admits lab journal → All Typed journal → length lab.journal + length journal ≤ cap →

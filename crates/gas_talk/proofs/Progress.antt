@@ -14,7 +14,7 @@ use Rattle.gas_talk.specs.declared.end.SessionEnd.{SessionEnd}
 use Rattle.gas_talk.specs.declared.end.SessionEnd.TheVariants.{Quit, WriteFault, BadLine, Memory}
 use Rattle.gas_talk.specs.declared.reader.LineReader.{LineReader}
 use Rattle.gas_talk.specs.Lines.{Item, text, bad, lines}
-use Rattle.gas_talk.specs.Private.{Keeps, EndsWith, Progress, AnswersLines}
+use Rattle.gas_talk.specs.Private.{KeepsUnread, EndsWith, Progress, AnswersLines}
 use Rattle.gas_talk.specs.Talk.{Put, no_put, TalkLine, Takes, Calls}
 use Rattle.gas_talk.specs.Ends.{is_quit, until_end, ending, line_of, replies, memory_line, bytes_put, failed_by, failures_after, EndsAs, Place, Leads, Serves, IsSession}
 use Rattle.gas_talk.proofs.Cutting.{lines_nil}
@@ -44,7 +44,7 @@ module _ {D : Type 0} (door : Calls D) where
   Leads-size old (talk_line ∷ talk_lines) new h = Leads-size h.0 talk_lines new h.2 ∙ h.1.1
 
   -- before the first read
-  pub Progress_start : (old : Place D) (reader : LineReader) → Keeps reader [] → AnswersLines door [] old None reader old
+  pub Progress_start : (old : Place D) (reader : LineReader) → KeepsUnread reader [] → AnswersLines door [] old None reader old
   Progress_start old reader keeps = (
     record {
       talk_lines = [];
@@ -59,7 +59,7 @@ module _ {D : Type 0} (door : Calls D) where
   )
 
   -- a read
-  pub Progress_read : (input : List ℕ) (old : Place D) (reader : LineReader) (now : Place D) (bytes : List ℕ) (after : LineReader) → Progress door input old reader now → ((unread : List ℕ) → Keeps reader unread → Keeps after (unread ++ bytes)) → Progress door (input ++ bytes) old after now
+  pub Progress_read : (input : List ℕ) (old : Place D) (reader : LineReader) (now : Place D) (bytes : List ℕ) (after : LineReader) → Progress door input old reader now → ((unread : List ℕ) → KeepsUnread reader unread → KeepsUnread after (unread ++ bytes)) → Progress door (input ++ bytes) old after now
   Progress_read input old reader now bytes after p reads = record {
     talk_lines = p.talk_lines;
     unread = p.unread ++ bytes;
@@ -107,7 +107,7 @@ module _ {D : Type 0} (door : Calls D) where
   module _ (input : List ℕ) (old : Place D) (reader : LineReader) (now : Place D) (p : Progress door input old reader now) where
     -- a line that is answered, and the session goes on
     pub Progress_line : (bytes : List ℕ) (reply : Reply) (put : Put) (after : LineReader) (rest : List ℕ) (next : Place D)
-        → Keeps after rest → ((more : List ℕ) → lines (p.unread ++ more) ≡ text bytes ∷ lines (rest ++ more))
+        → KeepsUnread after rest → ((more : List ℕ) → lines (p.unread ++ more) ≡ text bytes ∷ lines (rest ++ more))
         → is_quit (request_of (door.size_of old.door) bytes) ≡ false
         → IsStep now (record { item = text bytes; reply = reply; put = put }) next
         → Appends now.written next.written (reply_line reply)
@@ -241,7 +241,7 @@ module _ {D : Type 0} (door : Calls D) where
     Serves_last_memory written end part missing cut sent (inr fault) = rw fault (Serves_memory_cut written part missing cut sent)
 
     -- no line is left
-    pub lines_answered : (after : LineReader) → Keeps after p.unread → lines p.unread ≡ [] → AnswersLines door input old None after now
+    pub lines_answered : (after : LineReader) → KeepsUnread after p.unread → lines p.unread ≡ [] → AnswersLines door input old None after now
     lines_answered after keeps none = (
       record {
         talk_lines = p.talk_lines;

@@ -23,7 +23,7 @@ use Rattle.gas_talk.specs.Lines.{Item, text, bad, lines}
 use Rattle.gas_talk.specs.Talk.{Put, no_put, TalkLine, Saves, Answers, Replies, Takes, Calls}
 use Rattle.gas_talk.specs.Ends.{until_end, failed_puts, failures_after, shelved_by, EndsAs, StopsAtEnd, Place, IsSession}
 use Rattle.gas_lab.specs.Copying.{Copies}
-use Rattle.gas_talk.specs.LabTalk.{Outcome, plain, memory, shelf, wants_memory, told, answered, saved, requested, taken_at, talk, IsTalk}
+use Rattle.gas_talk.specs.LabTalk.{Outcome, plain, memory, shelf, wants_memory, told, answered, saved, requested, talk_of_item, talk, IsTalk}
 
 start_of : (b : Bool) (some other : Laboratory) → some.start ≡ other.start → (cond b some other).start ≡ other.start
 start_of true some other same = same
@@ -126,7 +126,7 @@ module _ {D : Type 0} (door : Calls D) where
     of_read d item r read reply put e (inl same) h = of_request d item read reply put e (subst (λ x. Answers door d x reply put e) same h)
     of_read d item r read reply put e (inr refused) h = of_row d item read reply put e refused.1 (subst (λ x. Answers door d x reply put e) refused.0 h)
 
-    of_item : (d : D) (item : Item) (reply : Reply) (put : Put) (e : D) → Replies door d item reply put e → Gives (taken_at (seat_of d) (lab_of d) item) (record { item = item; reply = reply; put = put }) (lab_of e)
+    of_item : (d : D) (item : Item) (reply : Reply) (put : Put) (e : D) → Replies door d item reply put e → Gives (talk_of_item (seat_of d) (lab_of d) item) (record { item = item; reply = reply; put = put }) (lab_of e)
     of_item d bad reply put e h = rw (h.0, h.1, ap lab_of h.2) (plain, refl)
     of_item d (text line) reply put e h =
         of_read d (text line) h.0 (request_of (extent (lab_of d).start.particles) line) reply put e (subst (λ size. Reads h.0 (request_of size line)) (sizes d) h.1) h.2

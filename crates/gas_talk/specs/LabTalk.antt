@@ -66,16 +66,16 @@ requested seat item lab (Ok Quit) outcome = (replied item Bye no_put, lab)
 requested seat item lab (Err refusal) outcome = (replied item (Refused refusal) no_put, lab)
 
 -- the talk line of an item of the seat, and the laboratory after it
-abbrev pub taken_at : ℕ → Laboratory → Item → Outcome → TalkLine × Laboratory
-taken_at seat lab (text line) outcome =
+abbrev pub talk_of_item : ℕ → Laboratory → Item → Outcome → TalkLine × Laboratory
+talk_of_item seat lab (text line) outcome =
     requested seat (text line) lab (request_of (extent lab.start.particles) line) outcome
-taken_at seat lab bad outcome = (replied bad (Refused refusals.Line) no_put, lab)
+talk_of_item seat lab bad outcome = (replied bad (Refused refusals.Line) no_put, lab)
 
 -- the talk lines of items with their outcomes, and the laboratory after them
 abbrev pub talk : ℕ → Laboratory → List (Item × Outcome) → List TalkLine × Laboratory
 talk seat lab [] = ([], lab)
 talk seat lab (i ∷ items) =
-    let first = taken_at seat lab i.0 i.1 in
+    let first = talk_of_item seat lab i.0 i.1 in
     let rest = talk seat first.1 items in
     (first.0 ∷ rest.0, rest.1)
 

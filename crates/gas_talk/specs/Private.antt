@@ -16,8 +16,8 @@ use Rattle.gas_talk.specs.Lines.{lines, text, bad, line_limit}
 use Rattle.gas_talk.specs.Talk.{TalkLine, Calls}
 
 -- whatever comes after them, what the reader keeps reads as these bytes at the start of a line
-abbrev pub Keeps : LineReader → List ℕ → Type 0
-Keeps r unread = Resumes gives_lines (at_line_start line_limit) unread r.codec r.buffer.items
+abbrev pub KeepsUnread : LineReader → List ℕ → Type 0
+KeepsUnread r unread = Resumes gives_lines (at_line_start line_limit) unread r.codec r.buffer.items
 
 -- how many bytes it keeps
 abbrev pub kept_len : LineReader → ℕ
@@ -26,11 +26,11 @@ kept_len r = length r.buffer.items
 -- what is found where these bytes are unread
 abbrev pub Finds : List ℕ → Found → LineReader → Type 0
 Finds unread (Line line) new =
-    (rest : List ℕ) × Keeps new rest
+    (rest : List ℕ) × KeepsUnread new rest
     × ((more : List ℕ) → lines (unread ++ more) ≡ text (string_bytes line) ∷ lines (rest ++ more))
 Finds unread Bad new = (more : List ℕ) → lines (unread ++ more) ≡ bad ∷ []
 Finds unread NoRoom new = Unit {0}
-Finds unread More new = (lines unread ≡ []) × Keeps new unread
+Finds unread More new = (lines unread ≡ []) × KeepsUnread new unread
 
 -- a line that is found leaves less
 abbrev pub IsShorter : Found → ℕ → ℕ → Type 0
@@ -51,7 +51,7 @@ pub record HasRead (n : ℕ) (unread_old : Option (List ℕ)) (old : LineReader)
   pub more : List ℕ
   pub long : length more ≡ n
   pub consumes : Consumes unread_old unread_new more
-  pub keeps : (unread : List ℕ) → Keeps old unread → Keeps new (unread ++ more)
+  pub keeps : (unread : List ℕ) → KeepsUnread old unread → KeepsUnread new (unread ++ more)
   pub short : n ≤ read_limit
   pub end : n ≡ 0 → IsAtEnd unread_new
 
@@ -59,7 +59,7 @@ pub record HasRead (n : ℕ) (unread_old : Option (List ℕ)) (old : LineReader)
 pub record HasReadNothing (unread_old : Option (List ℕ)) (old : LineReader)
     (unread_new : Option (List ℕ)) (new : LineReader) : Type 0 where
   pub bytes : KeepsBytes unread_old unread_new
-  pub keeps : (unread : List ℕ) → Keeps old unread → Keeps new unread
+  pub keeps : (unread : List ℕ) → KeepsUnread old unread → KeepsUnread new unread
 
 -- A part of these bytes is written, and all of them if the flag is set.
 abbrev pub WritesPart : Option (List ℕ) → Option (List ℕ) → List ℕ → Bool → Type 0
@@ -78,7 +78,7 @@ module _ {D : Type 0} (door : Calls D) where
     pub talk_lines : List TalkLine
     pub unread : List ℕ
     pub leads : Leads door old talk_lines new
-    pub keeps : Keeps reader unread
+    pub keeps : KeepsUnread reader unread
     pub items : (more : List ℕ) → lines (input ++ more)
         ≡ map (λ talk_line. talk_line.item) talk_lines ++ lines (unread ++ more)
     pub unended : AreUnended (door.size_of old.door) talk_lines

@@ -1,7 +1,7 @@
 //! Cuts an input into lines.
 
 ghost use Rattle.std.specs.Prelude.{◌≡◌, ℕ, ◌+◌, ◌<◌, List, [], IfOk, OnErr};
-ghost use Rattle.gas_talk.specs.Private.{Keeps, kept_len, Finds, IsShorter, HasRead, HasReadNothing, reads_made};
+ghost use Rattle.gas_talk.specs.Private.{KeepsUnread, kept_len, Finds, IsShorter, HasRead, HasReadNothing, reads_made};
 
 use crate::reads::{READ_LIMIT, SessionReads};
 use bytes::BytesMut;
@@ -42,7 +42,7 @@ pub enum ReadFault {
 impl LineReader {
     /// Nothing is read yet.
     pub fn new(alloc: Global) -> LineReader
-        ensures { Keeps result [] }
+        ensures { KeepsUnread result [] }
     {
         LineReader {
             codec: LinesCodec::new_with_max_length(LINE_LIMIT),
@@ -52,7 +52,8 @@ impl LineReader {
 
     /// Takes the next line.
     pub fn next_line(&mut self) -> Found
-        ensures found { (unread : List ℕ) → Keeps self.old unread → Finds unread result self.new }
+        ensures found { (unread : List ℕ) → KeepsUnread self.old unread →
+            Finds unread result self.new }
         ensures shorter { IsShorter result (kept_len self.old) (kept_len self.new) }
     {
         match self.codec.decode(&mut self.buffer) {

@@ -33,6 +33,6 @@ pub record IsTold (setup : Setup) (start : Gas) (count : ℕ) (old new : Option 
     pub written : Appends old new (served_line done failed entries)
 
 -- What was served was told; or memory was refused for the opening, and nothing was written; or, with status 1, writing failed.
-abbrev pub Serves : Setup → Gas → ℕ → Option (List ℕ) → ℕ → Option (List ℕ) → Type 0
-Serves setup start count old status new =
+abbrev pub ServesHall : Setup → Gas → ℕ → Option (List ℕ) → ℕ → Option (List ℕ) → Type 0
+ServesHall setup start count old status new =
     ((status ≡ 0) × IsTold setup start count old new) ⊎ ((status ≡ 4) × (new ≡ old)) ⊎ (status ≡ 1)

@@ -3,8 +3,8 @@
 ghost use Rattle.std.specs.Prelude.{◌<◌, ◌≤◌, IsTrue, vec_len};
 ghost use Rattle.std.specs.Io.KnownBytes.{Appends};
 ghost use Rattle.gas_run.specs.Plans.{most_sessions, IsInRange};
-ghost use Rattle.gas_run.specs.Running.{start_of};
-ghost use Rattle.gaslab.specs.Serving.{Serves, served_line};
+ghost use Rattle.gas_run.specs.Running.{starting_gas};
+ghost use Rattle.gaslab.specs.Serving.{ServesHall, served_line};
 
 use gas_hall::{Lobby, TurnServed, serve_lab};
 use gas_ledger::Gas;
@@ -72,7 +72,7 @@ pub fn serve_on<T: Threads + Clock + Wait + Sync, L: Lobby, K: Shelf + Drop + Se
 ) -> u8
     requires setup { IsInRange setup }
     requires shelves { (0 < vec_len shelves) × (vec_len shelves ≤ most_sessions) }
-    ensures { Serves setup (start_of setup.size start) (vec_len shelves)
+    ensures { ServesHall setup (starting_gas setup.size start) (vec_len shelves)
         (W.contents writer.old) result (W.contents writer.new) }
 {
     let team = StripTeam::new(rt, alloc, setup.workers);

@@ -6,7 +6,7 @@ use Rattle.gas_terms.specs.Laboratory.{Laboratory, IsSound}
 use Rattle.gas_terms.specs.declared.command.Entry.{Entry}
 use Rattle.gas_terms.specs.declared.answer.Answer.{Answer}
 use Rattle.gas_terms.specs.declared.refusal.Refusal.{Refusal}
-use Rattle.gas_seats.specs.Seats.{taken}
+use Rattle.gas_seats.specs.Seats.{entries_told}
 use Rattle.gas_seats.proofs.Events.{Extends}
 use Rattle.mutex_hall.specs.Halls.{IsNamed}
 
@@ -19,7 +19,7 @@ named_after size cap entry old new reply grown same kept sound = record {
 }
 
 pub booked_after : (entry : Entry) (old new : Laboratory) (reply : Result Answer Refusal) (before made after : ℕ)
-    → Extends entry old reply new → before ≡ length old.journal → made ≡ taken reply → after ≡ before + made → after ≡ length new.journal
+    → Extends entry old reply new → before ≡ length old.journal → made ≡ entries_told reply → after ≡ before + made → after ≡ length new.journal
 booked_after entry old new reply before made after grown total is added =
     let long = ap length grown.journal ∙ length-append old.journal grown.added in
     let told = grown.told in

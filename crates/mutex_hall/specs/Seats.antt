@@ -2,7 +2,7 @@
 use Rattle.std.specs.Prelude.{ℕ, ◌+◌, List, map, Result}
 use Rattle.gas_terms.specs.declared.answer.Answer.{Answer}
 use Rattle.gas_terms.specs.declared.refusal.Refusal.{Refusal}
-use Rattle.gas_seats.specs.Seats.{taken}
+use Rattle.gas_seats.specs.Seats.{entries_told}
 
 -- a seat's number, and how many entries of the journal it made
 pub record Seat : Type 0 where
@@ -18,4 +18,4 @@ numbers seats = map (λ seat. seat.number) seats
 
 -- the seat after a reply
 abbrev pub counted : Seat → Result Answer Refusal → Seat
-counted seat reply = record seat { entries = seat.entries + taken reply }
+counted seat reply = record seat { entries = seat.entries + entries_told reply }

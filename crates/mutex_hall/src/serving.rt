@@ -3,7 +3,7 @@
 ghost use Rattle.std.specs.Prelude.{◌≡◌, ◌+◌, ◌≤◌, ⊤, [], vec_len};
 ghost use Rattle.std.specs.List.{sum_by};
 ghost use Rattle.gas_terms.specs.Laboratory.{IsPrefix};
-ghost use Rattle.gas_seats.specs.Seats.{most_seats};
+ghost use Rattle.gas_seats.specs.Seats.{most_hall_seats};
 ghost use Rattle.gas_hall.specs.Busy.{busy};
 ghost use Rattle.mutex_hall.specs.Seats.{Seat, numbers};
 
@@ -71,7 +71,7 @@ pub fn serve<
     seats: Vec<HallSeat<N>>,
     shelves: Vec<K>,
 ) -> Served<HallSeat<N>>
-    requires few { vec_len seats ≤ most_seats }
+    requires few { vec_len seats ≤ most_hall_seats }
     requires shelves { vec_len shelves ≡ vec_len seats }
     ensures count { result.done + result.failed ≡ vec_len seats }
     ensures busy { busy (λ seat. seat.entries) seats.items result.seats.items ≤ result.done }

@@ -3,7 +3,7 @@ use Rattle.std.proofs.Common.{◌≡◌, ℕ, zero, suc, ◌+◌, ◌<◌, Bool,
 use Rattle.gas_terms.specs.Cells.{Cells, joined}
 use Rattle.gas_terms.specs.Gas.{streamed}
 use Rattle.gas_terms.specs.Accounts.{taken}
-use Rattle.phase_step.specs.Runs.{parity_at, after, run_takes, takings}
+use Rattle.phase_step.specs.Runs.{parity_at, particles_after, run_takes, takings}
 use Rattle.phase_step.specs.Actions.{Leaves, acted, after_with, flows, phase_with, flow_with}
 use Rattle.phase_step.specs.declared.sums.flow.Flow.{Flow}
 use Rattle.phase_step.proofs.ActedTiles.{still_acts}
@@ -53,7 +53,7 @@ part_after_with p w o leaves c m n q now next turns is =
 abbrev pub still : ℕ → Leaves
 still k x y held = held
 
-pub still_after : (p : ℕ) (solid c : Cells) (n : ℕ) → after_with p solid still c n ≡ after p solid c n
+pub still_after : (p : ℕ) (solid c : Cells) (n : ℕ) → after_with p solid still c n ≡ particles_after p solid c n
 still_after p solid c zero = refl
 still_after p solid c (suc n) =
     let now = after_with p solid still c n in

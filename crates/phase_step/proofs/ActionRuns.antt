@@ -2,7 +2,7 @@
 use Rattle.std.proofs.Common.{◌≡◌, ℕ, zero, suc, ◌*◌, ◌/◌, Bool, true, refl, ap₂, arith}
 use Rattle.gas_terms.specs.Cells.{Cells, HasSidesOf, has, extent, is_size, tile_count}
 use Rattle.gas_terms.proofs.Cells.{same_cells_where}
-use Rattle.phase_step.specs.Runs.{after}
+use Rattle.phase_step.specs.Runs.{particles_after}
 use Rattle.phase_step.specs.Actions.{Leaves, acted, after_with}
 
 -- what leaves the same cells acts alike
@@ -10,7 +10,7 @@ pub acted_same : (some others : Leaves) (cells : Cells) → ((x y : ℕ) (held :
 acted_same some others cells same = grind (arith, same_cells_where, has)
 
 -- the sides stay
-pub sides_after : (p : ℕ) (solid c : Cells) (k : ℕ) → HasSidesOf (after p solid c k) c
+pub sides_after : (p : ℕ) (solid c : Cells) (k : ℕ) → HasSidesOf (particles_after p solid c k) c
 sides_after p solid c zero = record { wide = refl; high = refl }
 sides_after p solid c (suc k) = let before = sides_after p solid c k in record { wide = before.wide; high = before.high }
 

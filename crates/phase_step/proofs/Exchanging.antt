@@ -22,11 +22,11 @@ in_none : (areas : List Rectangle) (x y : ℕ) → (length areas == 0) ≡ true 
 in_none [] x y e = refl
 in_none (r ∷ areas) x y e = absurd (grind (arith, nat_tests))
 
-pub still : (drains sources : List Rectangle) → (length drains == 0) ≡ true → (length sources == 0) ≡ true → IsStill (λ x y held. is_left held drains sources x y)
-still drains sources e f x y held = stays held (is_in_any drains x y) (is_in_any sources x y) (in_none drains x y e) (in_none sources x y f)
+pub no_areas_still : (drains sources : List Rectangle) → (length drains == 0) ≡ true → (length sources == 0) ≡ true → IsStill (λ x y held. is_left held drains sources x y)
+no_areas_still drains sources e f x y held = stays held (is_in_any drains x y) (is_in_any sources x y) (in_none drains x y e) (in_none sources x y f)
 
 pub nowhere_is_still : (e : Areas) → e ≡ nowhere → IsStill (leaves_of e)
-nowhere_is_still e is x y held = ap (λ (e : Areas). leaves_of e x y held) is ∙ still [] [] refl refl x y held
+nowhere_is_still e is x y held = ap (λ (e : Areas). leaves_of e x y held) is ∙ no_areas_still [] [] refl refl x y held
 
 -- a cell that drains empty unless sources have it, and that sources fill then
 left_is : (was out come : Bool) → (if come && not false then true else if out && not come then false else was) ≡ ((was && not out) || come)

@@ -12,7 +12,7 @@ use Rattle.gas_terms.proofs.Totals.{same_sums}
 use Rattle.block_rule.specs.Accounts.{if_counted, counted_of}
 use Rattle.block_rule.specs.declared.walled.Counted.{Counted}
 use Rattle.phase_step.specs.Amounts.{Amounts}
-use Rattle.phase_step.specs.Runs.{nothing, takings}
+use Rattle.phase_step.specs.Runs.{nothing_taken, takings}
 use Rattle.phase_step.specs.Actions.{unmoved, movements, flow_plus, flows, FlowsFit}
 use Rattle.phase_step.specs.Balance.{flow_counted}
 use Rattle.phase_step.specs.declared.sums.flow.Flow.{Flow}
@@ -77,7 +77,7 @@ flows_add = record {
 pub counted_plus : (c : Counted) (a b : Took) → took_plus (counted_of c a) (counted_of c b) ≡ counted_of c (took_plus a b)
 counted_plus c a b = grind (arith, took_same, pair_plus, if_counted, true, false)
 
-pub counted_none : (c : Counted) → nothing ≡ counted_of c nothing
+pub counted_none : (c : Counted) → nothing_taken ≡ counted_of c nothing_taken
 counted_none c = grind (arith, took_same, pos, if_counted, true, false)
 
 pub flows_counted : (c : Counted) (a b : Flow) → flow_plus (flow_counted c a) (flow_counted c b) ≡ flow_counted c (flow_plus a b)
@@ -96,7 +96,7 @@ pub record IsFlowOf (n : ℕ) (f : Flow) : Type 0 where
   pub took : IsTakenOf n f.took
   pub moved : IsMovedOf n f.moved
 
-pub none_taken : (n : ℕ) → IsTakenOf n nothing
+pub none_taken : (n : ℕ) → IsTakenOf n nothing_taken
 none_taken n = record { walls = record { x = omega arith; y = omega arith }; obstacles = record { x = omega arith; y = omega arith } }
 
 pub none_moved : (n : ℕ) → IsMovedOf n unmoved

@@ -98,8 +98,8 @@ module _ (part : Part) (cells lattice : Cells) (i : ℕ) (sized : is_size (exten
       subst (λ b. tile_in part b i / b ≡ part.first + (i / (cells.width / 64) - part.margin)) across_is
       (ap (λ n. n / (cells.width / 64)) number ∙ div-mul-add (part.first + (i / (cells.width / 64) - part.margin)) (cells.width / 64) (i % (cells.width / 64)) column)
 
-  pub within_there : tile_in part (lattice.width / 64) i < tile_count lattice
-  within_there =
+  pub own_within_there : tile_in part (lattice.width / 64) i < tile_count lattice
+  own_within_there =
       let f = placed.inside in
       let d = placed.down in
       let l = rows.0 in

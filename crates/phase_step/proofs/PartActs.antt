@@ -17,7 +17,7 @@ use Rattle.phase_step.proofs.Amounts.{sum_none}
 use Rattle.phase_step.proofs.FlowSums.{movements_add}
 use Rattle.phase_step.proofs.OwnTiles.{own_within}
 use Rattle.phase_step.proofs.ActedTiles.{cell_within, still_acts}
-use Rattle.phase_step.proofs.TileChanges.{tile_moved, none_moved}
+use Rattle.phase_step.proofs.TileChanges.{tile_moved, stays_unmoved}
 
 -- A tile of the lattice: what an action leaves of it,
 pub left_there : (leaves : Leaves) (lattice : Cells) (i : ℕ) (old new : Tile) → IsLattice lattice → i < tile_count lattice → (let r = tile_rectangle lattice i in IsTileFrom old lattice r.x r.y) → (let r = tile_rectangle lattice i in IsLeftOf leaves r.x r.y old new)
@@ -48,7 +48,7 @@ kept_there leaves lattice i is within kept x y h k =
 
 pub stays_there : (tick : ℤ) (leaves : Leaves) (lattice : Cells) (i : ℕ) → IsLattice lattice → i < tile_count lattice → (let r = tile_rectangle lattice i in KeepsTile leaves r.x r.y) → unmoved ≡ tile_moves tick lattice (acted leaves lattice) i
 stays_there tick leaves lattice i is within kept =
-    sym (none_moved tick leaves lattice i (tile_rectangle lattice i) is within (record { left = refl; top = refl; wide = refl; high = refl }) (λ x y h k. kept x y _ h k))
+    sym (stays_unmoved tick leaves lattice i (tile_rectangle lattice i) is within (record { left = refl; top = refl; wide = refl; high = refl }) (λ x y h k. kept x y _ h k))
 
 -- by its number
 pub corner_at : (lattice : Cells) (across i j : ℕ) → IsLattice lattice → i < tile_count lattice → across ≡ lattice.width / 64 → j ≡ i → IsTileCorner (j % across * 64) (j / across * 64)
@@ -78,7 +78,7 @@ still_rows leaves part cells lattice k still is = subst (λ (there : Cells). IsP
 pub still_moves_there : (tick : ℤ) (leaves : Leaves) (old : Cells) (first n : ℕ) → IsLattice old → IsStill leaves → first + n ≤ tile_count old → unmoved ≡ tiles_move tick old (acted leaves old) first n
 still_moves_there tick leaves old first n is still within =
     sum_none movements movements_add _ n
-    (λ i less. sym (none_moved tick leaves old (first + i) (tile_rectangle old (first + i)) is (omega arith) (record { left = refl; top = refl; wide = refl; high = refl }) (λ x y p q. still _ _ _)))
+    (λ i less. sym (stays_unmoved tick leaves old (first + i) (tile_rectangle old (first + i)) is (omega arith) (record { left = refl; top = refl; wide = refl; high = refl }) (λ x y p q. still _ _ _)))
 
 pub still_own : (p : ℕ) (leaves : Leaves) (part : Part) (cells lattice : Cells) (k : ℕ) → IsStill leaves → IsPartOf part cells lattice k → unmoved ≡ own_moves part p cells lattice (acted leaves lattice)
 still_own p leaves part cells lattice k still is = still_moves_there (pos p) leaves lattice _ _ (record { sized = is.sized; full = is.full }) still (own_within part cells lattice is.placed)

@@ -30,8 +30,8 @@ flows_twice l t u m n =
     booked (with_taken (with_taken l t) u) _ _ _ _ (grouped totals totals_add l.injected m.injected n.injected) (grouped totals totals_add l.drained m.drained n.drained)
     ∙ ap (λ (l : Ledger). with_moved l (moved_plus m n)) (taken_twice l t u)
 
-flows_none : (l : Ledger) → l ≡ with_moved (with_taken l runs.nothing) unmoved
-flows_none l = taken_none l ∙ booked (with_taken l runs.nothing) _ _ _ _ (totals_add.right l.injected) (totals_add.right l.drained)
+flows_none : (l : Ledger) → l ≡ with_moved (with_taken l runs.nothing_taken) unmoved
+flows_none l = taken_none l ∙ booked (with_taken l runs.nothing_taken) _ _ _ _ (totals_add.right l.injected) (totals_add.right l.drained)
 
 -- what a change moves is the same at ticks of one parity
 pub same_parity : (t u : ℤ) (old new : Cells) → parity t ≡ parity u → moved_by t old new ≡ moved_by u old new

@@ -6,7 +6,7 @@ use Rattle.std.proofs.lemmas.Bool.{cases_eq, eq-eqb, ne_eqb}
 use Rattle.gas_terms.specs.Cells.{Cells, Rectangle, has, extent, tile_rectangle}
 use Rattle.gas_terms.specs.Gas.{streamed}
 use Rattle.gas_plane.proofs.Places.{IsWholeTiles, wide, high, cell_below}
-use Rattle.block_rule.specs.Around.{turned}
+use Rattle.block_rule.specs.Around.{turned_window}
 use Rattle.block_rule.specs.Windows.{IsAround}
 use Rattle.block_rule.specs.InPlace.{IsLeaving, IsCarried}
 use Rattle.block_rule.specs.TileBlocks.{AreGivenBlocks, walled_by}
@@ -71,7 +71,7 @@ module _ (place : RowPlace) (column : ℕ) (solid cells lattice : Cells) (is : I
   walls_there = view_of solid rectangle.x rectangle.y
 
   abbrev pub rule : ℕ → ℕ → Bool
-  rule = turned 1 window walls_there
+  rule = turned_window 1 window walls_there
 
   pub across : IsWholeTiles lattice.width
   across = wide (extent lattice) is.sized

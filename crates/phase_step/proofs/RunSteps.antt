@@ -15,7 +15,7 @@ use Rattle.gas_terms.proofs.Parity.{parity-small, parity-next, parity-last}
 use Rattle.gas_terms.proofs.Steps.{unstreamed-streamed}
 use Rattle.gas_terms.proofs.Stretches.{IsReady, stepped-ready, stepped-plain}
 use Rattle.gas_terms.proofs.StoppedTotals.{taken-streamed}
-use Rattle.phase_step.specs.Runs.{parity_at, after, nothing, takes_after, takes_before, ran, ran_back}
+use Rattle.phase_step.specs.Runs.{parity_at, particles_after, nothing_taken, takes_after, takes_before, ran, ran_back}
 use Rattle.phase_step.proofs.ActionRuns.{sides_after}
 use Rattle.phase_step.proofs.Amounts.{grouped}
 use Rattle.phase_step.proofs.FlowSums.{pair_same, momenta, momenta_add}
@@ -54,7 +54,7 @@ minus_none a = pair_same (omega (arith, ints)) (omega (arith, ints))
 pub taken_twice : (l : Ledger) (t u : Took) → with_taken (with_taken l t) u ≡ with_taken l (took_plus t u)
 taken_twice l t u = made l _ _ _ _ (grouped momenta momenta_add l.walls t.walls u.walls) (grouped momenta momenta_add l.obstacles t.obstacles u.obstacles)
 
-pub taken_none : (l : Ledger) → l ≡ with_taken l nothing
+pub taken_none : (l : Ledger) → l ≡ with_taken l nothing_taken
 taken_none l = made l l.walls l.obstacles _ _ (momenta_add.right l.walls) (momenta_add.right l.obstacles)
 
 given_twice : (l : Ledger) (t u : Took) → with_given_back (with_given_back l t) u ≡ with_given_back l (took_plus t u)
@@ -69,14 +69,14 @@ at_same b t u c d l m e f g = ap₂ (λ t c. at b t c l) e f ∙ ap (at b u d) g
 
 pub forward_run : (n : ℕ) (b : BookedGas) → iterate moved n b ≡ ran n b
 forward_run zero b =
-    at_same b b.gas.tick (b.gas.tick +ℤ pos 0) b.gas.particles b.gas.particles b.ledger (with_taken b.ledger nothing) (omega (arith, ints)) refl (taken_none b.ledger)
+    at_same b b.gas.tick (b.gas.tick +ℤ pos 0) b.gas.particles b.gas.particles b.ledger (with_taken b.ledger nothing_taken) (omega (arith, ints)) refl (taken_none b.ledger)
 forward_run (suc n) b =
     let g = b.gas in
-    let now = after (parity g.tick) (solid g) g.particles n in
+    let now = particles_after (parity g.tick) (solid g) g.particles n in
     let turn = later g.tick n in
     iterate_last moved n b
     ∙ (ap moved (forward_run n b)
-    ∙ at_same b (g.tick +ℤ pos n +ℤ pos 1) (g.tick +ℤ pos (suc n)) (streamed (parity (g.tick +ℤ pos n)) now (solid g)) (after (parity g.tick) (solid g) g.particles (suc n))
+    ∙ at_same b (g.tick +ℤ pos n +ℤ pos 1) (g.tick +ℤ pos (suc n)) (streamed (parity (g.tick +ℤ pos n)) now (solid g)) (particles_after (parity g.tick) (solid g) g.particles (suc n))
     (with_taken (with_taken b.ledger (takes_after n g)) (taken (parity (g.tick +ℤ pos n)) now g.walls g.obstacles)) (with_taken b.ledger (takes_after (suc n) g))
     (omega (arith, ints)) (ap (λ p. streamed p now (solid g)) turn)
     (taken_twice b.ledger (takes_after n g) (taken (parity (g.tick +ℤ pos n)) now g.walls g.obstacles)
@@ -92,12 +92,12 @@ whole_run n b ok = idle_run n b ok ∙ forward_run n b
 
 pub back_run : (n : ℕ) (b : BookedGas) → HasEvenSides b.gas.particles.width b.gas.particles.height → iterate stepped_back n b ≡ ran_back n b
 back_run zero b even =
-    at_same b b.gas.tick (b.gas.tick -ℤ pos 0) b.gas.particles b.gas.particles b.ledger (with_given_back b.ledger nothing) (omega (arith, ints)) refl
+    at_same b b.gas.tick (b.gas.tick -ℤ pos 0) b.gas.particles b.gas.particles b.ledger (with_given_back b.ledger nothing_taken) (omega (arith, ints)) refl
     (made b.ledger _ _ _ _ (minus_none b.ledger.walls) (minus_none b.ledger.obstacles))
 back_run (suc n) b even =
     let g = b.gas in
     let p = parity (g.tick -ℤ pos 1) in
-    let now = after p (solid g) g.particles n in
+    let now = particles_after p (solid g) g.particles n in
     let t = g.tick -ℤ pos n -ℤ pos 1 in
     let sides = sides_after p (solid g) g.particles n in
     let even_now : HasEvenSides now.width now.height = record { wide = ap (λ n. n % 2) sides.wide ∙ even.wide; high = ap (λ n. n % 2) sides.high ∙ even.high } in
@@ -107,7 +107,7 @@ back_run (suc n) b even =
     ap (λ (c : Cells). taken (parity t) c g.walls g.obstacles) there ∙ taken-streamed t now g.walls g.obstacles even_now in
     iterate_last stepped_back n b
     ∙ (ap stepped_back (back_run n b even)
-    ∙ at_same b t (g.tick -ℤ pos (suc n)) (unstreamed (parity t) now (solid g)) (after p (solid g) g.particles (suc n))
+    ∙ at_same b t (g.tick -ℤ pos (suc n)) (unstreamed (parity t) now (solid g)) (particles_after p (solid g) g.particles (suc n))
     (with_given_back (with_given_back b.ledger (takes_before n g)) (taken (parity t) (unstreamed (parity t) now (solid g)) g.walls g.obstacles)) (with_given_back b.ledger (takes_before (suc n) g))
     (omega (arith, ints)) (there ∙ ap (λ q. streamed q now (solid g)) turn)
     (given_twice b.ledger (takes_before n g) _

@@ -76,8 +76,8 @@ module _ (place : RowPlace) (column : ℕ) (solid old lattice : Cells) (is : IsR
       pub last_top : (x : ℕ) → x < 64 → shown (x + 1) 65 ≡ has old (column * 64 + x) (place.below * 64)
       last_top x h = seen_top x h ∙ sym (ready.top (column * 64 + x) (column_in place column solid old lattice is less x h))
 
-      pub row_begun : (coming : Beside) → IsLeaving coming (made_of 64) 31 → AreSeamsTurned place 0 next old old coming
-      row_begun coming leaves =
+      pub seam_row_begun : (coming : Beside) → IsLeaving coming (made_of 64) 31 → AreSeamsTurned place 0 next old old coming
+      seam_row_begun coming leaves =
           let e = begin_is place column solid old lattice is less last in
           record {
             sides = record { wide = refl; high = refl };

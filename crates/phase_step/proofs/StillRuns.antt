@@ -5,7 +5,7 @@ use Rattle.gas_terms.specs.Gas.{streamed}
 use Rattle.gas_terms.proofs.Steps.{full_streamed}
 use Rattle.gas_plane.specs.Planes.{IsLattice}
 use Rattle.block_rule.specs.declared.walled.Counted.{Counted}
-use Rattle.phase_step.specs.Runs.{parity_at, after}
+use Rattle.phase_step.specs.Runs.{parity_at, particles_after}
 use Rattle.phase_step.specs.Actions.{Leaves, IsStill, after_with, no_flow, flows}
 use Rattle.phase_step.specs.Balance.{flow_counted}
 use Rattle.phase_step.specs.TileRuns.{phase_flow, tiles_flow}
@@ -21,22 +21,22 @@ use Rattle.phase_step.proofs.TileFlows.{tiles_flow_all}
 use Rattle.phase_step.proofs.Untaken.{tiles_untaken}
 
 -- two phases more, from an even one on
-pub pair_after : (solid c : Cells) (k : ℕ) → streamed 1 (streamed 0 (after 0 solid c (2 * k)) solid) solid ≡ after 0 solid c (2 * (k + 1))
+pub pair_after : (solid c : Cells) (k : ℕ) → streamed 1 (streamed 0 (particles_after 0 solid c (2 * k)) solid) solid ≡ particles_after 0 solid c (2 * (k + 1))
 pair_after solid c k =
     let even : 0 ≡ parity_at 0 (2 * k) = omega arith in
     let odd : 1 ≡ parity_at 0 (suc (2 * k)) = omega arith in
     let two : suc (suc (2 * k)) ≡ 2 * (k + 1) = omega arith in
-    ap₂ (λ p q. streamed q (streamed p (after 0 solid c (2 * k)) solid) solid) even odd ∙ ap (after 0 solid c) two
+    ap₂ (λ p q. streamed q (streamed p (particles_after 0 solid c (2 * k)) solid) solid) even odd ∙ ap (particles_after 0 solid c) two
 
 -- and one
-pub one_after : (solid c : Cells) (k n : ℕ) → n % 2 ≡ 1 → k ≡ n / 2 → streamed 0 (after 0 solid c (2 * k)) solid ≡ after 0 solid c n
+pub one_after : (solid c : Cells) (k n : ℕ) → n % 2 ≡ 1 → k ≡ n / 2 → streamed 0 (particles_after 0 solid c (2 * k)) solid ≡ particles_after 0 solid c n
 one_after solid c k n odd half =
     let even : 0 ≡ parity_at 0 (2 * k) = omega arith in
     let one : suc (2 * k) ≡ n = omega (arith, odd, half) in
-    ap (λ p. streamed p (after 0 solid c (2 * k)) solid) even ∙ ap (after 0 solid c) one
+    ap (λ p. streamed p (particles_after 0 solid c (2 * k)) solid) even ∙ ap (particles_after 0 solid c) one
 
 -- a run from an odd phase on
-pub odd_first : (solid c : Cells) (n : ℕ) → after 0 solid (streamed 1 c solid) n ≡ after 1 solid c (suc n)
+pub odd_first : (solid c : Cells) (n : ℕ) → particles_after 0 solid (streamed 1 c solid) n ≡ particles_after 1 solid c (suc n)
 odd_first solid c zero = refl
 odd_first solid c (suc n) =
     let same : parity_at 0 n ≡ parity_at 1 (suc n) = omega arith in
@@ -61,7 +61,7 @@ module _ (p : ℕ) (w o : Cells) (leaves : ℕ → Leaves) (c : Cells) (of : IsL
       sum_none flows flows_add (λ k. flow_counted kept (phase_flow p w o leaves c first n k)) k (λ k less. none_flows kept first n k within of_walls of_obstacles none)
       ∙ sum_as flows flows (flow_counted kept) (same_flow _ _ (counted_none kept) refl) (flows_counted kept) (phase_flow p w o leaves c first n) k
 
-  pub still_run : (kept : Counted) (n : ℕ) (new : Cells) → HasSidesOf w c → HasSidesOf o c → AreOfNone kept w o → new ≡ after p (joined w o) c n → HasRunWhole kept (record { parity = p; walls = w; obstacles = o; leaves = leaves }) n c new no_flow
+  pub still_run : (kept : Counted) (n : ℕ) (new : Cells) → HasSidesOf w c → HasSidesOf o c → AreOfNone kept w o → new ≡ particles_after p (joined w o) c n → HasRunWhole kept (record { parity = p; walls = w; obstacles = o; leaves = leaves }) n c new no_flow
   still_run kept n new of_walls of_obstacles none is =
       record {
         particles = is ∙ sym (after_same p (joined w o) leaves still c n (λ k h x y held. acts_not k x y held) ∙ still_after p (joined w o) c n);

@@ -95,9 +95,9 @@ tile_moved tick leaves cells i change old new r is within square gained lost was
     same_moved (moved_by_counts tick change) _ (counted_sums tick change.gained (without next cells) r came) (counted_sums tick change.lost (without cells next) r went)
 
 -- a tile that stays moves nothing
-pub none_moved : (tick : ℤ) (leaves : Leaves) (cells : Cells) (i : ℕ) (r : Rectangle) → IsLattice cells → i < tile_count cells → IsSquareOf cells.width i r → Stays leaves cells i
+pub stays_unmoved : (tick : ℤ) (leaves : Leaves) (cells : Cells) (i : ℕ) (r : Rectangle) → IsLattice cells → i < tile_count cells → IsSquareOf cells.width i r → Stays leaves cells i
     → (let m : Moved = record { injected = total_in tick (without (acted leaves cells) cells) r; drained = total_in tick (without cells (acted leaves cells)) r } in m) ≡ unmoved
-none_moved tick leaves cells i r is within square stays =
+stays_unmoved tick leaves cells i r is within square stays =
     let next : Cells = acted leaves cells in
     let same : (x y : ℕ) → x < r.w → y < r.h → has next (r.x + x) (r.y + y) ≡ has cells (r.x + x) (r.y + y) = λ x y p q.
     let xl : x < 64 = let e = square.wide in omega arith in

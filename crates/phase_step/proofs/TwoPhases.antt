@@ -9,14 +9,14 @@ use Rattle.phase_step.specs.OddPhase.{IsRowThere, HasRow, HasInner, HasSeam, IsI
 use Rattle.phase_step.specs.declared.odd_phase.RowPlace.{RowPlace}
 use Rattle.phase_step.proofs.OddParts.{above, below_is, inner_begins, seam_begins, begins_cases, top_in, inner_at, seam_at}
 
-abbrev pub place_in : Cells → ℕ → RowPlace
-place_in cells row = record { row = row; below = (row + 1) % (cells.height / 64); there = row }
+abbrev pub place_in_whole : Cells → ℕ → RowPlace
+place_in_whole cells row = record { row = row; below = (row + 1) % (cells.height / 64); there = row }
 
-pub place_is : (place : RowPlace) (cells : Cells) (row : ℕ) → place.row ≡ row → place.below ≡ (row + 1) % (cells.height / 64) → place.there ≡ row → place ≡ place_in cells row
-place_is place cells row e f g = grind (arith)
+pub place_in_whole_is : (place : RowPlace) (cells : Cells) (row : ℕ) → place.row ≡ row → place.below ≡ (row + 1) % (cells.height / 64) → place.there ≡ row → place ≡ place_in_whole cells row
+place_in_whole_is place cells row e f g = grind (arith)
 
-pub row_there_is : (solid cells lattice : Cells) (row : ℕ) → is_size (extent lattice) ≡ true → HasSidesOf solid lattice → HasSidesOf cells lattice → row < lattice.height / 64 → IsRowThere (place_in lattice row) solid cells lattice
-row_there_is solid cells lattice row sized of_solid sides low = record { sized = sized; of_solid = of_solid; wide = sides.wide; low = low }
+pub whole_row_there_is : (solid cells lattice : Cells) (row : ℕ) → is_size (extent lattice) ≡ true → HasSidesOf solid lattice → HasSidesOf cells lattice → row < lattice.height / 64 → IsRowThere (place_in_whole lattice row) solid cells lattice
+whole_row_there_is solid cells lattice row sized of_solid sides low = record { sized = sized; of_solid = of_solid; wide = sides.wide; low = low }
 
 -- a row of tiles of a set
 pub room_there : (set cells now : Cells) (row there : ℕ) → HasSidesOf set cells → HasSidesOf now cells → row < cells.height / 64 → there ≡ row → there * (now.width / 64) + now.width / 64 ≤ tile_count set
@@ -30,7 +30,7 @@ room_there set cells now row there sides same low e =
     omega (arith, most, turn, one, in_set, here)
 
 -- none has turned twice at the beginning
-pub first_turned : (mid next old now : Cells) → HasSidesOf now old → HasSidesOf mid old → IsEvenRowTurned (place_in old 0) mid old now → AreTurnedTwice 0 mid next old now
+pub first_turned : (mid next old now : Cells) → HasSidesOf now old → HasSidesOf mid old → IsEvenRowTurned (place_in_whole old 0) mid old now → AreTurnedTwice 0 mid next old now
 first_turned mid next old now sides of_mid row =
     record {
       sides = sides;
@@ -87,10 +87,10 @@ module _ (solid old : Cells) (row : ℕ) (sized : is_size (extent old) ≡ true)
       ]
 
   module _ (now : Cells) (so_far : AreTurnedTwice row mid next old now) where
-    pub ready_row : row + 1 < old.height / 64 → HasRow (place_in old (row + 1)) old.width now old
+    pub ready_row : row + 1 < old.height / 64 → HasRow (place_in_whole old (row + 1)) old.width now old
     ready_row more x y h k = so_far.rest x ((row + 1) * 64 + y) h (cell_below old.height (row + 1) y (high (extent old) sized) more k) (omega (arith, k))
 
-    pub next_turned : (new : Cells) → HasSidesOf new now → IsEvenRowTurned (place_in old (row + 1)) mid now new → IsNextTurned row mid next old new
+    pub next_turned : (new : Cells) → HasSidesOf new now → IsEvenRowTurned (place_in_whole old (row + 1)) mid now new → IsNextTurned row mid next old new
     next_turned new sides even =
         let other : (x y : ℕ) → x < old.width → y < old.height → (y / 64 ≡ row + 1 → ⊥) → has new x y ≡ has now x y = λ x y h k. even.rest x y (subst (λ w. x < w) (sym so_far.sides.wide) h) (subst (λ n. y < n) (sym so_far.sides.high) k) in
         record {
@@ -119,10 +119,10 @@ module _ (solid old : Cells) (row : ℕ) (sized : is_size (extent old) ≡ true)
 
   module _ (low : row < old.height / 64) (now : Cells) (ready : IsNextTurned row mid next old now) where
     abbrev place : RowPlace
-    place = place_in old row
+    place = place_in_whole old row
 
-    pub inner_ready : HasInner place mid.width now mid
-    inner_ready x y h k l =
+    pub whole_inner_ready : HasInner place mid.width now mid
+    whole_inner_ready x y h k l =
         ready.once x (row * 64 + y) h (cell_below old.height row y (high (extent old) sized) low (omega (arith, l)))
         (let e = inner_begins old sized row y low k (omega (arith, l)) in omega (arith, e)) (omega (arith, l))
 
@@ -130,8 +130,8 @@ module _ (solid old : Cells) (row : ℕ) (sized : is_size (extent old) ≡ true)
       rest_inner : (x y : ℕ) → x < old.width → y < old.height → (IsInnerOf place y → ⊥) → has inner x y ≡ has now x y
       rest_inner x y h k = made.rest x y (subst (λ w. x < w) (sym ready.sides.wide) h) (subst (λ n. y < n) (sym ready.sides.high) k)
 
-      pub seam_ready : HasSeam place mid.width inner mid
-      seam_ready =
+      pub whole_seam_ready : HasSeam place mid.width inner mid
+      whole_seam_ready =
           let down = high (extent old) sized in
           record {
             bottom = λ x h.

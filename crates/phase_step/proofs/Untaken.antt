@@ -12,7 +12,7 @@ use Rattle.gas_terms.proofs.Walled.{walled_by_either}
 use Rattle.block_rule.specs.Accounts.{if_counted, counted_of}
 use Rattle.block_rule.specs.Windows.{taken_in}
 use Rattle.block_rule.specs.declared.walled.Counted.{Counted}
-use Rattle.phase_step.specs.Runs.{nothing, takings, tiles_take}
+use Rattle.phase_step.specs.Runs.{nothing_taken, takings, tiles_take}
 use Rattle.phase_step.specs.Parts.{own_rows, own_take, IsPartOf}
 use Rattle.phase_step.specs.SolidBlocks.{AreOfNone, HasNoBlocks}
 use Rattle.phase_step.specs.declared.parts.Part.{Part}
@@ -36,7 +36,7 @@ module _ (p : ℕ) (c w o : Cells) (i : ℕ) (small : p < 2) (sized : is_size (e
       ap₂ (λ m n. is_walled set (site_of p m n (i % (m / 64) * 64 + x) (i / (m / 64) * 64 + y))) (sym sides.wide) (sym sides.high)
       ∙ none i (subst (λ n. i < n) (sym (tiles_as set c sides)) within) p small x y h k
 
-  none_in : (test : Site → Bool) → ((x y : ℕ) → x < 64 → y < 64 → test (site x y) ≡ false) → twice_momentum (total_in (pos p) (stopped (parity (pos p)) c test) (tile_rectangle c i)) ≡ nothing.walls
+  none_in : (test : Site → Bool) → ((x y : ℕ) → x < 64 → y < 64 → test (site x y) ≡ false) → twice_momentum (total_in (pos p) (stopped (parity (pos p)) c test) (tile_rectangle c i)) ≡ nothing_taken.walls
   none_in test none =
       let place = place_is c w o i sized within of_walls of_obstacles in
       let r = tile_rectangle c i in
@@ -46,7 +46,7 @@ module _ (p : ℕ) (c w o : Cells) (i : ℕ) (small : p < 2) (sized : is_size (e
       has-cells_where c.width c.height (λ x y. has c x y && test (site_of (p % 2) c.width c.height x y)) (r.x + x) (r.y + y) (omega (arith, h, place.right)) (omega (arith, k, place.bottom))
       ∙ (ap (λ q. has c (r.x + x) (r.y + y) && test (site_of q c.width c.height (r.x + x) (r.y + y))) same ∙ and_false (has c (r.x + x) (r.y + y)) (test (site x y)) (none x y h k))))
 
-  no_walls : HasNoBlocks w → (taken_in (pos p) c w o (tile_rectangle c i)).walls ≡ nothing.walls
+  no_walls : HasNoBlocks w → (taken_in (pos p) c w o (tile_rectangle c i)).walls ≡ nothing_taken.walls
   no_walls none =
       none_in (takes_for_walls w o) (λ x y h k.
       let place = place_is c w o i sized within of_walls of_obstacles in
@@ -57,15 +57,15 @@ module _ (p : ℕ) (c w o : Cells) (i : ℕ) (small : p < 2) (sized : is_size (e
       (subst (λ s. IsSite p w.width w.height s) (ap₂ (λ m n. site_of p m n ((tile_rectangle c i).x + x) ((tile_rectangle c i).y + y)) of_walls.wide of_walls.high) at))
       (no_site w of_walls none x y h k))
 
-  no_obstacles : HasNoBlocks o → (taken_in (pos p) c w o (tile_rectangle c i)).obstacles ≡ nothing.obstacles
+  no_obstacles : HasNoBlocks o → (taken_in (pos p) c w o (tile_rectangle c i)).obstacles ≡ nothing_taken.obstacles
   no_obstacles none =
       none_in (takes_for_obstacles w o) (λ x y h k. and_false (is_walled (joined w o) (site x y)) (is_walled o (site x y)) (no_site o of_obstacles none x y h k))
 
-if_none : (b : Bool) (p : Pair) → (b ≡ true → p ≡ nothing.walls) → if_counted b p ≡ nothing.walls
+if_none : (b : Bool) (p : Pair) → (b ≡ true → p ≡ nothing_taken.walls) → if_counted b p ≡ nothing_taken.walls
 if_none true p h = h refl
 if_none false p h = refl
 
-pub tiles_untaken : (p : ℕ) (c w o : Cells) (kept : Counted) (first n : ℕ) → p < 2 → is_size (extent c) ≡ true → HasSidesOf w c → HasSidesOf o c → AreOfNone kept w o → first + n ≤ tile_count c → nothing ≡ counted_of kept (tiles_take p c w o first n)
+pub tiles_untaken : (p : ℕ) (c w o : Cells) (kept : Counted) (first n : ℕ) → p < 2 → is_size (extent c) ≡ true → HasSidesOf w c → HasSidesOf o c → AreOfNone kept w o → first + n ≤ tile_count c → nothing_taken ≡ counted_of kept (tiles_take p c w o first n)
 tiles_untaken p c w o kept first n small sized of_walls of_obstacles none within =
     sum_none takings takings_add (λ k. counted_of kept (taken_in (pos p) c w o (tile_rectangle c (first + k)))) n
     (λ k less.
@@ -77,7 +77,7 @@ tiles_untaken p c w o kept first n small sized of_walls of_obstacles none within
     ∙ sum_as takings takings (counted_of kept) (counted_none kept) (counted_plus kept) (λ k. taken_in (pos p) c w o (tile_rectangle c (first + k))) n
 
 -- so nothing is taken in a part
-pub own_untaken : (p : ℕ) (part : Part) (cells lattice w o : Cells) (kept : Counted) (k : ℕ) → p < 2 → IsPartOf part cells lattice k → HasSidesOf w lattice → HasSidesOf o lattice → AreOfNone kept w o → nothing ≡ counted_of kept (own_take part p cells lattice w o)
+pub own_untaken : (p : ℕ) (part : Part) (cells lattice w o : Cells) (kept : Counted) (k : ℕ) → p < 2 → IsPartOf part cells lattice k → HasSidesOf w lattice → HasSidesOf o lattice → AreOfNone kept w o → nothing_taken ≡ counted_of kept (own_take part p cells lattice w o)
 own_untaken p part cells lattice w o kept k small is of_walls of_obstacles none =
     let a = lattice.width / 64 in
     let same : a ≤ a = omega arith in

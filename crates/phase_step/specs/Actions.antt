@@ -9,7 +9,7 @@ use Rattle.gas_terms.specs.Accounts.{taken, took_plus, pair_plus, TakenFits, Sum
 use Rattle.gas_terms.specs.Accounts as accounts
 use Rattle.gas_terms.specs.declared.accounts.Moved.{Moved}
 use Rattle.phase_step.specs.Amounts.{Amounts, sum_first}
-use Rattle.phase_step.specs.Runs.{parity_at, nothing}
+use Rattle.phase_step.specs.Runs.{parity_at, nothing_taken}
 use Rattle.phase_step.specs.declared.sums.flow.Flow.{Flow}
 
 -- what an action leaves of the cell (x, y), by whether it is held
@@ -52,7 +52,7 @@ movements = record { none = unmoved; plus = moved_plus }
 
 -- nothing of either, and how flows add up
 abbrev pub no_flow : Flow
-no_flow = record { took = nothing; moved = unmoved }
+no_flow = record { took = nothing_taken; moved = unmoved }
 
 abbrev pub flow_plus : Flow → Flow → Flow
 flow_plus a b = record { took = took_plus a.took b.took; moved = moved_plus a.moved b.moved }

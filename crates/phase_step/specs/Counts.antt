@@ -15,5 +15,5 @@ abbrev pub moved_by_counts : ℤ → CellCounts → Moved
 moved_by_counts tick change = record { injected = sums_of_counts tick change.gained; drained = sums_of_counts tick change.lost }
 
 -- a cell that was held, or not, changes when it is filled or emptied
-abbrev pub changes : Bool → Bool → Bool
-changes held was = if held then not was else was
+abbrev pub cell_changes : Bool → Bool → Bool
+cell_changes held was = if held then not was else was

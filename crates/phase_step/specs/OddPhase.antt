@@ -7,7 +7,7 @@ use Rattle.bit_tile.specs.declared.Tile.{Tile}
 use Rattle.gas_terms.specs.Cells.{Cells, HasSidesOf, has, extent, is_size, tile_count}
 use Rattle.gas_terms.specs.Gas.{streamed}
 use Rattle.gas_plane.specs.Planes.{IsLattice}
-use Rattle.block_rule.specs.Around.{turned}
+use Rattle.block_rule.specs.Around.{turned_window}
 use Rattle.block_rule.specs.InPlace.{ShowsBegun, TurnsInto, IsInnerSeen, IsRowTurned, IsCarried}
 use Rattle.block_rule.specs.TileBlocks.{AreGivenBlocks, walled_by}
 use Rattle.block_rule.specs.declared.blocks.Blocks.{Blocks}
@@ -22,7 +22,7 @@ use Rattle.phase_step.specs.declared.odd_phase.RowTurner.{RowTurner}
 pub record TurnsInner (before : RowTurner) (t r made : Tile) (after : RowTurner) : Type 0 where
   pub cells : (window solid after : ℕ → ℕ → Bool) → TurnsInto window solid after → IsInnerSeen window t r → AreGivenBlocks before.walled (walled_by solid) → IsCarried before.carry (after 0)
       → (x y : ℕ) → x < 64 → 1 ≤ y → y < 63 → tile.has made x y ≡ after x y
-  pub leaving : (window solid : ℕ → ℕ → Bool) → IsInnerSeen window t r → AreGivenBlocks before.walled (walled_by solid) → IsCarried after.carry (turned 1 window solid 64)
+  pub leaving : (window solid : ℕ → ℕ → Bool) → IsInnerSeen window t r → AreGivenBlocks before.walled (walled_by solid) → IsCarried after.carry (turned_window 1 window solid 64)
   pub top : (x : ℕ) → x < 64 → tile.has made x 0 ≡ tile.has t x 0
   pub bottom : (x : ℕ) → x < 64 → tile.has made x 63 ≡ tile.has t x 63
   pub walled : after.walled ≡ before.walled
@@ -36,7 +36,7 @@ pub record IsInnerTurned (row column : ℕ) (edge : ℕ → Bool) (before after 
       → AreGivenBlocks before.walled (walled_by solid) → IsCarried before.carry (after 0)
       → (x y : ℕ) → x < 64 → 1 ≤ y → y < 63 → has new (column * 64 + x) (row * 64 + y) ≡ after x y
   pub leaving : (window solid : ℕ → ℕ → Bool) → ((x y : ℕ) → x < 64 → 1 ≤ y → y < 63 → window (x + 1) (y + 1) ≡ has old (column * 64 + x) (row * 64 + y)) → ((y : ℕ) → 1 ≤ y → y < 63 → window 65 (y + 1) ≡ edge y)
-      → AreGivenBlocks before.walled (walled_by solid) → IsCarried after.carry (turned 1 window solid 64)
+      → AreGivenBlocks before.walled (walled_by solid) → IsCarried after.carry (turned_window 1 window solid 64)
   pub others : (x y : ℕ) → x < old.width → y < old.height → (x / 64 ≡ column → y / 64 ≡ row → 1 ≤ y % 64 → y % 64 < 63 → ⊥) → has new x y ≡ has old x y
 
 -- What comes from the left was put into the first column of a row of tiles, in its rows of cells 1 to 62.

@@ -133,17 +133,17 @@ pub record HasRunPart (r : PartRun) (old new : Cells) (answer : Flow) : Type 0 w
 
 -- How far a part's cells are made: in this order, those before this place. If the part has margins,
 -- so many rows at either end are not.
-pub record Progress : Type 0 where
+pub record PartProgress : Type 0 where
   pub order : ℕ → ℕ → ℕ
   pub place : ℕ
   pub edge : ℕ
   pub part : Part
 
-abbrev pub made_to : (ℕ → ℕ → ℕ) → ℕ → ℕ → Part → Progress
+abbrev pub made_to : (ℕ → ℕ → ℕ) → ℕ → ℕ → Part → PartProgress
 made_to order place edge part = record { order = order; place = place; edge = edge; part = part }
 
 -- Cells that are made are the next lattice's. All from the place on are as before.
-pub record AreMadeTo (to : Progress) (next old now : Cells) : Type 0 where
+pub record AreMadeTo (to : PartProgress) (next old now : Cells) : Type 0 where
   pub sides : HasSidesOf now old
   pub made : (x y : ℕ) → x < old.width → to.part.margin * to.edge ≤ y
       → y + to.part.margin * to.edge < old.height → to.order x y < to.place

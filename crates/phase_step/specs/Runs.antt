@@ -14,21 +14,21 @@ abbrev pub parity_at : ℕ → ℕ → ℕ
 parity_at p k = (p + k) % 2
 
 -- the particles after so many phases
-abbrev pub after : ℕ → Cells → Cells → ℕ → Cells
-after p solid particles zero = particles
-after p solid particles (suc k) = streamed (parity_at p k) (after p solid particles k) solid
+abbrev pub particles_after : ℕ → Cells → Cells → ℕ → Cells
+particles_after p solid particles zero = particles
+particles_after p solid particles (suc k) = streamed (parity_at p k) (particles_after p solid particles k) solid
 
 -- nothing that is taken, and how what is taken adds up
-abbrev pub nothing : Took
-nothing = record { walls = record { x = pos 0; y = pos 0 }; obstacles = record { x = pos 0; y = pos 0 } }
+abbrev pub nothing_taken : Took
+nothing_taken = record { walls = record { x = pos 0; y = pos 0 }; obstacles = record { x = pos 0; y = pos 0 } }
 
 abbrev pub takings : Amounts Took
-takings = record { none = nothing; plus = took_plus }
+takings = record { none = nothing_taken; plus = took_plus }
 
 -- what walls and obstacles take in so many phases
 abbrev pub run_takes : ℕ → Cells → Cells → Cells → ℕ → Took
 run_takes p walls obstacles particles n =
-    sum_first takings (λ k. taken (parity_at p k) (after p (joined walls obstacles) particles k) walls obstacles) n
+    sum_first takings (λ k. taken (parity_at p k) (particles_after p (joined walls obstacles) particles k) walls obstacles) n
 
 -- what they take in a phase of parity p, of the particles of n tiles from tile `first` on
 abbrev pub tiles_take : ℕ → Cells → Cells → Cells → ℕ → ℕ → Took
@@ -37,14 +37,14 @@ tiles_take p particles walls obstacles first n =
 
 -- a gas n ticks later, on which no port acted, and what walls and obstacles took on the way
 abbrev pub gas_after : ℕ → Gas → Gas
-gas_after n g = record g { tick = g.tick +ℤ pos n; particles = after (parity g.tick) (solid g) g.particles n }
+gas_after n g = record g { tick = g.tick +ℤ pos n; particles = particles_after (parity g.tick) (solid g) g.particles n }
 
 abbrev pub takes_after : ℕ → Gas → Took
 takes_after n g = run_takes (parity g.tick) g.walls g.obstacles g.particles n
 
 -- a gas n ticks earlier, and what walls and obstacles took on the way from there
 abbrev pub gas_before : ℕ → Gas → Gas
-gas_before n g = record g { tick = g.tick -ℤ pos n; particles = after (parity (g.tick -ℤ pos 1)) (solid g) g.particles n }
+gas_before n g = record g { tick = g.tick -ℤ pos n; particles = particles_after (parity (g.tick -ℤ pos 1)) (solid g) g.particles n }
 
 abbrev pub takes_before : ℕ → Gas → Took
 takes_before n g = run_takes (parity (g.tick -ℤ pos 1)) g.walls g.obstacles g.particles n

@@ -10,13 +10,13 @@ use Rattle.gas_terms.proofs.RowSums.{new_row, other_row}
 use Rattle.gas_plane.specs.Planes.{IsLattice}
 use Rattle.gas_plane.proofs.Places.{wide}
 use Rattle.phase_step.specs.Parts.{HasRows}
-use Rattle.phase_strips.specs.Courses.{IsRow, HasRow, AreOthersKept}
+use Rattle.phase_strips.specs.Courses.{AreRowBytes, HasCellRow, AreOtherRowsKept}
 use Rattle.phase_strips.specs.Strips.{place_of}
 use Rattle.phase_strips.specs.declared.runs.strip.OwnRows.{OwnRows}
 use Rattle.phase_strips.proofs.Loads.{own_row}
 
 -- the bytes of a row that is the lattice's
-pub row_shown : (lattice cells : Cells) (row y : ℕ) (bytes : List ℕ) → IsLattice cells → HasRow lattice row cells y → bytes ≡ row_bytes cells y → IsRow lattice row bytes
+pub row_shown : (lattice cells : Cells) (row y : ℕ) (bytes : List ℕ) → IsLattice cells → HasCellRow lattice row cells y → bytes ≡ row_bytes cells y → AreRowBytes lattice row bytes
 row_shown lattice cells row y bytes is there e =
     let tiles = (wide (extent cells) is.sized).tiles in
     record {
@@ -28,18 +28,18 @@ row_shown lattice cells row y bytes is there e =
     }
 
 -- written over a list of their length
-pub row_written : (lattice cells : Cells) (row y len : ℕ) (bytes rest : List ℕ) → IsLattice cells → HasRow lattice row cells y → bytes ≡ row_bytes cells y → len ≡ cells.width / 8 → IsRow lattice row (take len (bytes ++ rest))
+pub row_written : (lattice cells : Cells) (row y len : ℕ) (bytes rest : List ℕ) → IsLattice cells → HasCellRow lattice row cells y → bytes ≡ row_bytes cells y → len ≡ cells.width / 8 → AreRowBytes lattice row (take len (bytes ++ rest))
 row_written lattice cells row y len bytes rest is there e len_is =
-    subst (IsRow lattice row) (sym (take_at bytes rest len (ap length e ∙ (length-row_bytes cells y ∙ sym len_is)))) (row_shown lattice cells row y bytes is there e)
+    subst (AreRowBytes lattice row) (sym (take_at bytes rest len (ap length e ∙ (length-row_bytes cells y ∙ sym len_is)))) (row_shown lattice cells row y bytes is there e)
 
 -- and where they are put
-pub row_put : (lattice old new : Cells) (row y : ℕ) (bytes : List ℕ) → old.width ≡ lattice.width → y < old.height → IsRow lattice row bytes → new ≡ row_replaced old y bytes → HasRow lattice row new y
+pub row_put : (lattice old new : Cells) (row y : ℕ) (bytes : List ℕ) → old.width ≡ lattice.width → y < old.height → AreRowBytes lattice row bytes → new ≡ row_replaced old y bytes → HasCellRow lattice row new y
 row_put lattice old new row y bytes wide_is below is e = record {
   wide = ap (λ (c : Cells). c.width) e ∙ wide_is;
   cell = λ x less. ap (λ (c : Cells). has c x y) e ∙ (new_row old y bytes x (subst (λ w. x < w) (sym wide_is) less) below ∙ is.cell x less);
 }
 
-pub others_kept : (old new : Cells) (y : ℕ) (bytes : List ℕ) → new ≡ row_replaced old y bytes → AreOthersKept old y new
+pub others_kept : (old new : Cells) (y : ℕ) (bytes : List ℕ) → new ≡ row_replaced old y bytes → AreOtherRowsKept old y new
 others_kept old new y bytes e = record {
   sides = record { wide = ap (λ (c : Cells). c.width) e; high = ap (λ (c : Cells). c.height) e };
   row = λ x z xl zl apart. ap (λ (c : Cells). has c x z) e ∙ other_row old y bytes x z xl zl apart;
@@ -47,7 +47,7 @@ others_kept old new y bytes e = record {
 
 -- a strip's first and last row, in the lattice
 pub own_shown : (lattice cells : Cells) (own : OwnRows) (row y : ℕ) → 0 < own.rows → own.first + own.rows ≤ lattice.height / 64 → cells.width ≡ lattice.width → cells.height ≡ (own.rows + 2) * 64
-    → HasRows (place_of (lattice.height / 64) own) cells lattice 64 → 64 ≤ y → y < (own.rows + 1) * 64 → row ≡ own.first * 64 + (y - 64) → HasRow lattice row cells y
+    → HasRows (place_of (lattice.height / 64) own) cells lattice 64 → 64 ≤ y → y < (own.rows + 1) * 64 → row ≡ own.first * 64 + (y - 64) → HasCellRow lattice row cells y
 own_shown lattice cells own row y some inside wide_is tall rows low high e = record {
   wide = wide_is;
   cell = λ x xl.
@@ -65,10 +65,10 @@ pub record AreTaken (lattice zero one two : Cells) (own : OwnRows) (upper lower 
   pub rows : HasRows (place_of (lattice.height / 64) own) zero lattice 64
   pub upper_is : upper ≡ (own.first * 64 + lattice.height - 1) % lattice.height
   pub lower_is : lower ≡ ((own.first + own.rows) * 64 - 1 + 1) % lattice.height
-  pub above : HasRow lattice upper one 63
-  pub above_kept : AreOthersKept zero 63 one
-  pub below : HasRow lattice lower two (own.rows * 64 + 64)
-  pub below_kept : AreOthersKept one (own.rows * 64 + 64) two
+  pub above : HasCellRow lattice upper one 63
+  pub above_kept : AreOtherRowsKept zero 63 one
+  pub below : HasCellRow lattice lower two (own.rows * 64 + 64)
+  pub below_kept : AreOtherRowsKept one (own.rows * 64 + 64) two
 
 pub edges_taken : (lattice zero one two : Cells) (own : OwnRows) (upper lower : ℕ) → AreTaken lattice zero one two own upper lower → HasRows (place_of (lattice.height / 64) own) two lattice 63
 edges_taken lattice zero one two own upper lower t = record {

@@ -59,17 +59,17 @@ Lists exchanges leaves from n =
     (k : ℕ) → k < n → (x y : ℕ) (held : Bool) → listed exchanges k x y held ≡ leaves (from + k) x y held
 
 -- the bytes are those of this row of the lattice
-pub record IsRow (lattice : Cells) (row : ℕ) (bytes : List ℕ) : Type 0 where
+pub record AreRowBytes (lattice : Cells) (row : ℕ) (bytes : List ℕ) : Type 0 where
   pub len : length bytes ≡ lattice.width / 8
   pub cell : (x : ℕ) → x < lattice.width → row_has bytes x ≡ has lattice x row
 
 -- row y of the cells is this row of the lattice
-pub record HasRow (lattice : Cells) (row : ℕ) (cells : Cells) (y : ℕ) : Type 0 where
+pub record HasCellRow (lattice : Cells) (row : ℕ) (cells : Cells) (y : ℕ) : Type 0 where
   pub wide : cells.width ≡ lattice.width
   pub cell : (x : ℕ) → x < lattice.width → has cells x y ≡ has lattice x row
 
 -- a lattice of the same sides, in which every row but row y is as before
-pub record AreOthersKept (before : Cells) (y : ℕ) (now : Cells) : Type 0 where
+pub record AreOtherRowsKept (before : Cells) (y : ℕ) (now : Cells) : Type 0 where
   pub sides : HasSidesOf now before
   pub row : (x z : ℕ) → x < before.width → z < before.height → z ≢ y → has now x z ≡ has before x z
 

@@ -10,7 +10,7 @@ use Rattle.gas_terms.specs.Accounts.{taken}
 use Rattle.gas_terms.specs.declared.accounts.Took.{Took}
 use Rattle.gas_plane.specs.Planes.{IsLattice}
 use Rattle.phase_step.specs.Turns.{IsTileAfter}
-use Rattle.phase_team.specs.Tiles.{IsTurnedAt, tile_takes, tiles_take}
+use Rattle.phase_team.specs.Tiles.{IsTurnedAt, tile_takes, numbered_tiles_take}
 use Rattle.phase_team.specs.declared.phase.shift.Task.{Task}
 use Rattle.phase_team.specs.declared.phase.worker.Turned.{Turned}
 use Rattle.phase_team.specs.declared.phase.worker.TileWorker.{TileWorker}
@@ -23,8 +23,8 @@ pub record IsFresh (desk : DeskId) (w : TileWorker) : Type 0 where
   pub nothing : w.took ≡ record { walls = record { x = pos 0; y = pos 0 }; obstacles = record { x = pos 0; y = pos 0 } }
 
 -- tile i of the set of cells is as the task leaves it
-abbrev pub IsTurned : Task → Cells → ℕ → Type 0
-IsTurned task cells i = IsTurnedAt task.parity task.old.now task.walls.now task.obstacles.now cells i
+abbrev pub IsTileTurned : Task → Cells → ℕ → Type 0
+IsTileTurned task cells i = IsTurnedAt task.parity task.old.now task.walls.now task.obstacles.now cells i
 
 -- the particles after the task, and what is taken in it
 abbrev pub cells_after : Task → Cells
@@ -39,15 +39,15 @@ take_of task i = tile_takes task.parity task.old.now task.walls.now task.obstacl
 
 -- what is taken in the tiles of these numbers
 abbrev pub takes : Task → List ℕ → Took
-takes task numbers = tiles_take task.parity task.old.now task.walls.now task.obstacles.now numbers
+takes task numbers = numbered_tiles_take task.parity task.old.now task.walls.now task.obstacles.now numbers
 
 -- the tile is tile i as the task leaves it
-abbrev pub IsMade : Task → ℕ → Tile → Type 0
-IsMade task i t = IsTileAfter task.parity task.old.now (joined task.walls.now task.obstacles.now) i t
+abbrev pub IsTileAfterTask : Task → ℕ → Tile → Type 0
+IsTileAfterTask task i t = IsTileAfter task.parity task.old.now (joined task.walls.now task.obstacles.now) i t
 
 -- the tile stands at one of the numbers below the limit, and is as the task leaves it
 abbrev pub IsRight : Task → ℕ → Turned → Type 0
-IsRight task limit t = (t.place < limit) × IsMade task t.place t.tile
+IsRight task limit t = (t.place < limit) × IsTileAfterTask task t.place t.tile
 
 -- a lattice with the sides of the task's
 abbrev pub IsRoom : Task → Cells → Type 0
@@ -55,11 +55,11 @@ IsRoom task cells = IsLattice cells × HasSidesOf cells task.old.now
 
 -- the tiles of these numbers are turned in the set of cells
 abbrev pub AreTurned : Task → List ℕ → Cells → Type 0
-AreTurned task numbers cells = (i : ℕ) → i < tile_count task.old.now → 0 < times i numbers → IsTurned task cells i
+AreTurned task numbers cells = (i : ℕ) → i < tile_count task.old.now → 0 < times i numbers → IsTileTurned task cells i
 
 -- each tile that was turned is so still
 abbrev pub StayTurned : Task → Cells → Cells → Type 0
-StayTurned task before now = (i : ℕ) → i < tile_count task.old.now → IsTurned task before i → IsTurned task now i
+StayTurned task before now = (i : ℕ) → i < tile_count task.old.now → IsTileTurned task before i → IsTileTurned task now i
 
 -- the worker has turned each tile that it drew, and no other, and took what is taken in them
 pub record HasWorked (task : Task) (desk : DeskId) (w : TileWorker) : Type 0 where

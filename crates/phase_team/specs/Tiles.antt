@@ -18,5 +18,5 @@ abbrev pub tile_takes : ℕ → Cells → Cells → Cells → ℕ → Took
 tile_takes p particles walls obstacles i = taken_in (pos p) particles walls obstacles (tile_rectangle particles i)
 
 -- what they take in the tiles of these numbers
-abbrev pub tiles_take : ℕ → Cells → Cells → Cells → List ℕ → Took
-tiles_take p particles walls obstacles numbers = sum_each takings (tile_takes p particles walls obstacles) numbers
+abbrev pub numbered_tiles_take : ℕ → Cells → Cells → Cells → List ℕ → Took
+numbered_tiles_take p particles walls obstacles numbers = sum_each takings (tile_takes p particles walls obstacles) numbers

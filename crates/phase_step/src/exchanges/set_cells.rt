@@ -3,7 +3,7 @@
 ghost use Rattle.std.specs.Prelude.{◌≡◌, ℕ, ◌+◌, ◌-◌, ◌<◌, ◌&&◌, true, false, if◌then◌else◌, IsTrue, MatchOption, slice_index};
 ghost use Rattle.bit_tile.specs.Tile.{HasCells};
 ghost use Rattle.bit_tile.specs.Tile as in_tile;
-ghost use Rattle.phase_step.specs.Counts.{AreTileCounts, changes};
+ghost use Rattle.phase_step.specs.Counts.{AreTileCounts, cell_changes};
 ghost use Rattle.phase_step.specs.Exchanges.{is_in_any, is_set};
 
 use gas_plane::{Tile, is_covered, part_of};
@@ -39,7 +39,7 @@ fn lacking(counts: [u32; 4]) -> [u64; 4]
 // Fills or empties a whole tile. Returns how many cells change, by their classes.
 fn set_all(tile: &mut Tile, held: bool) -> [u64; 4]
     ensures cells { HasCells tile.new (λ _ _. held) }
-    ensures count { AreTileCounts result (λ x y. changes held (in_tile.has tile.old x y)) }
+    ensures count { AreTileCounts result (λ x y. cell_changes held (in_tile.has tile.old x y)) }
 {
     let counts = tile.count_by_parity();
     if held {
@@ -57,7 +57,7 @@ fn set_cells(tile: &mut Tile, cells: &Tile, held: bool) -> [u64; 4]
     ensures cells { HasCells tile.new (λ x y.
         if in_tile.has cells.now x y then held else in_tile.has tile.old x y) }
     ensures count { AreTileCounts result (λ x y.
-        in_tile.has cells.now x y && changes held (in_tile.has tile.old x y)) }
+        in_tile.has cells.now x y && cell_changes held (in_tile.has tile.old x y)) }
 {
     if held {
         let mut changed = *cells;
@@ -143,7 +143,8 @@ pub fn set_areas(
     ensures cells { HasCells tile.new (λ x y.
         if is_set areas.now kept.now (left + x) (top + y) then held else in_tile.has tile.old x y) }
     ensures count { AreTileCounts result (λ x y.
-        is_set areas.now kept.now (left + x) (top + y) && changes held (in_tile.has tile.old x y)) }
+        is_set areas.now kept.now (left + x) (top + y) &&
+        cell_changes held (in_tile.has tile.old x y)) }
 {
     if one_covers(kept, left, top) {
         return [0; 4];

@@ -6,7 +6,7 @@ ghost use Rattle.gas_terms.specs.Cells.{Cells, HasSidesOf};
 ghost use Rattle.gas_terms.specs.Gas.{streamed};
 ghost use Rattle.phase_step.specs.SolidBlocks.{HasNoBlocks};
 ghost use Rattle.phase_step.specs.OddPhase.{TurnsNext, TurnsSecond, TurnsTwice};
-ghost use Rattle.phase_step.specs.Runs.{after};
+ghost use Rattle.phase_step.specs.Runs.{particles_after};
 ghost use Rattle.phase_step.specs.Solid.{all_of};
 
 use crate::even_phase::turn_even_row;
@@ -158,7 +158,7 @@ fn turn_whole(particles: &mut Plane, known: KnownSolid<'_>, parity: u8)
 // So many phases, of which the first has parity 0.
 fn turn_from_even(particles: &mut Plane, known: KnownSolid<'_>, n: u16)
     requires solid { HasSidesOf (all_of known.solids.now) particles.old }
-    ensures { particles.new ≡ after 0 (all_of known.entry.solids.now) particles.old n }
+    ensures { particles.new ≡ particles_after 0 (all_of known.entry.solids.now) particles.old n }
 {
     for _pair in 0..n / 2 {
         turn_both(particles, known);
@@ -172,7 +172,8 @@ fn turn_from_even(particles: &mut Plane, known: KnownSolid<'_>, n: u16)
 pub fn turn_on(particles: &mut Plane, known: KnownSolid<'_>, parity: u8, n: u16)
     requires parity { parity < 2 }
     requires solid { HasSidesOf (all_of known.solids.now) particles.old }
-    ensures { particles.new ≡ after parity (all_of known.entry.solids.now) particles.old n }
+    ensures { particles.new ≡
+        particles_after parity (all_of known.entry.solids.now) particles.old n }
 {
     if parity == 0 {
         turn_from_even(particles, known, n);

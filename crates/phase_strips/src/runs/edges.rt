@@ -2,7 +2,7 @@
 //! that it is a row of the lattice in that run. So whoever finds one knows it, whichever thread wrote it.
 
 ghost use Rattle.std.specs.Prelude.{◌≡◌, ℕ, ◌<◌, IsTrue, IfSome, length};
-ghost use Rattle.phase_strips.specs.Courses.{lattice_at, IsRow, HasRow, AreOthersKept};
+ghost use Rattle.phase_strips.specs.Courses.{lattice_at, AreRowBytes, HasCellRow, AreOtherRowsKept};
 
 use crate::runs::watch::{NoWatch, Stopwatch, Watch};
 use gas_plane::Plane;
@@ -40,7 +40,7 @@ pub struct EdgeRow<N: RunName> {
     row: u32,
     phases: u16,
     of: PhantomData<N>,
-    ghost is: { IsRow (lattice_at N.course phases) row bytes.items },
+    ghost is: { AreRowBytes (lattice_at N.course phases) row bytes.items },
 }
 
 impl<N: RunName> EdgeRow<N> {
@@ -62,7 +62,7 @@ impl<N: RunName> EdgeRow<N> {
     // Becomes row y of some cells, where the lattice's row is after so many phases.
     fn show(&mut self, cells: &Plane, y: u32, row: u32, phases: u16)
         requires y { y < cells.now.height }
-        requires is { HasRow (lattice_at N.course phases) row cells.now y }
+        requires is { HasCellRow (lattice_at N.course phases) row cells.now y }
     {
         cells.shows_lattice();
         cells.row_bytes(y, self.bytes.as_mut_slice());
@@ -75,8 +75,8 @@ impl<N: RunName> EdgeRow<N> {
         requires y { y < cells.old.height }
         requires wide { cells.old.width ≡ N.course.start.width }
         ensures row { (row phases : ℕ) → self.now.row ≡ row → self.now.phases ≡ phases →
-            HasRow (lattice_at N.course phases) row cells.new y }
-        ensures kept { AreOthersKept cells.old y cells.new }
+            HasCellRow (lattice_at N.course phases) row cells.new y }
+        ensures kept { AreOtherRowsKept cells.old y cells.new }
     {
         cells.set_row(y, self.bytes.as_slice());
     }
@@ -103,7 +103,7 @@ pub fn show_row<N: RunName, W: Watch>(
     watch: &W,
 ) -> bool
     requires y { y < cells.now.height }
-    requires is { HasRow (lattice_at N.course phases) row cells.now y }
+    requires is { HasCellRow (lattice_at N.course phases) row cells.now y }
 {
     for looks in 0..PATIENCE {
         if let Some(mut shown) = edge.try_lock() {
@@ -130,8 +130,8 @@ pub fn take_row<N: RunName, W: Watch>(
 ) -> bool
     requires y { y < cells.old.height }
     requires wide { cells.old.width ≡ N.course.start.width }
-    ensures row { IsTrue result → HasRow (lattice_at N.course phases) row cells.new y }
-    ensures kept { AreOthersKept cells.old y cells.new }
+    ensures row { IsTrue result → HasCellRow (lattice_at N.course phases) row cells.new y }
+    ensures kept { AreOtherRowsKept cells.old y cells.new }
 {
     for looks in 0..PATIENCE {
         if let Some(shown) = edge.try_lock() {

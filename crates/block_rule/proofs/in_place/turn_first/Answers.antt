@@ -1,5 +1,5 @@
 use Rattle.std.proofs.Common.{arith}
-use Rattle.block_rule.specs.Around.{turned}
+use Rattle.block_rule.specs.Around.{turned_window}
 use Rattle.block_rule.proofs.InPlace.{seen_more, carried_more, turned_both, carried_both, others_kept, ends_both}
 use Rattle.block_rule.proofs.in_place.turn_first.Goals as goal
 
@@ -19,7 +19,7 @@ returns-clause-turned c = λ window solid after are seen named coming.
 
 pub returns-clause-leaving : goal.returns-clause-leaving
 returns-clause-leaving c = λ window solid seen named.
-    let test = turned 1 window solid in
+    let test = turned_window 1 window solid in
     let right = c.args.right.now in
     let first = c.turn_eight_among.ensures in
     let second = c.turn_eight_among-2.ensures in

@@ -1,5 +1,5 @@
 use Rattle.std.proofs.Common.{◌∙◌, arith, inr, length-set}
-use Rattle.block_rule.specs.Around.{turned}
+use Rattle.block_rule.specs.Around.{turned_window}
 use Rattle.block_rule.specs.InPlace.{IsRowTurned, IsLeaving}
 use Rattle.block_rule.proofs.InPlace.{rows_more, rows_left, beside_more, beside_left, begun_shown, leaving_kept, ends_left}
 use Rattle.block_rule.proofs.in_place.turn_rows.Goals as goal
@@ -23,7 +23,7 @@ loop-j-preserved c =
           (begun_shown window l.j c.begun_row-own.result _ c.right_row-beside.result _ (c.begun_row-own.ensures ∙ others.rows l.j (inr (omega arith))) c.right_row-beside.ensures (seen l.j (omega arith) (omega arith)))
           (named l.j (omega arith) (omega arith)) (leaving_kept (after 0) l.j _ _ (others.carried l.j (inr (omega arith))) (coming l.j (omega arith) (omega arith)))) m below;
       leaving = λ window solid seen named m low below.
-          beside_more (λ m new. IsLeaving new (turned 1 window solid 64) m) l.carry.upper l.carry.lower r.result.leaving.upper r.result.leaving.lower l.j (omega arith) (omega arith)
+          beside_more (λ m new. IsLeaving new (turned_window 1 window solid 64) m) l.carry.upper l.carry.lower r.result.leaving.upper r.result.leaving.lower l.j (omega arith) (omega arith)
           (λ m below. l.invariant.leaving window solid seen named m (omega arith) below)
           (r.ensures.leaving window solid l.j
           (begun_shown window l.j c.begun_row-own.result _ c.right_row-beside.result _ (c.begun_row-own.ensures ∙ others.rows l.j (inr (omega arith))) c.right_row-beside.ensures (seen l.j (omega arith) (omega arith)))

@@ -1,8 +1,8 @@
 use Rattle.std.proofs.Common.{◌+◌, arith, length-set}
-use Rattle.block_rule.specs.Around.{turned}
+use Rattle.block_rule.specs.Around.{turned_window}
 use Rattle.block_rule.specs.InPlace.{IsRowTurned, IsLeaving}
 use Rattle.block_rule.proofs.Windows.{eight_more}
-use Rattle.block_rule.proofs.InPlace.{beside_more, begun_shown, row_named}
+use Rattle.block_rule.proofs.InPlace.{beside_more, begun_shown, row_named_alike}
 use Rattle.block_rule.proofs.in_place.turned_eight.Goals as goal
 
 pub loop-k-preserved : goal.loop-k-preserved
@@ -22,13 +22,13 @@ loop-k-preserved g c =
           (l.invariant.done window solid after are seen named coming)
           (r.ensures.own window solid after (from + l.k) are
           (begun_shown window (from + l.k) c.begun_row-own.result _ c.right_row-beside.result _ c.begun_row-own.ensures c.right_row-beside.ensures (seen (from + l.k) (omega arith) (omega arith)))
-          (row_named _ _ solid (from + l.k) c.begin.ensures (named (from + l.k) (omega arith) (omega arith))) (coming l.k (omega arith)));
+          (row_named_alike _ _ solid (from + l.k) c.begin.ensures (named (from + l.k) (omega arith) (omega arith))) (coming l.k (omega arith)));
       leaving = λ window solid seen named.
-          beside_more (λ m new. IsLeaving new (turned 1 window solid 64) (from + m)) l.eight.upper l.eight.lower r.result.leaving.upper r.result.leaving.lower l.k (omega arith) (omega arith)
+          beside_more (λ m new. IsLeaving new (turned_window 1 window solid 64) (from + m)) l.eight.upper l.eight.lower r.result.leaving.upper r.result.leaving.lower l.k (omega arith) (omega arith)
           (l.invariant.leaving window solid seen named)
           (r.ensures.leaving window solid (from + l.k)
           (begun_shown window (from + l.k) c.begun_row-own.result _ c.right_row-beside.result _ c.begun_row-own.ensures c.right_row-beside.ensures (seen (from + l.k) (omega arith) (omega arith)))
-          (row_named _ _ solid (from + l.k) c.begin.ensures (named (from + l.k) (omega arith) (omega arith))));
+          (row_named_alike _ _ solid (from + l.k) c.begin.ensures (named (from + l.k) (omega arith) (omega arith))));
     }
 
 pub returns-clause-turned : goal.returns-clause-turned

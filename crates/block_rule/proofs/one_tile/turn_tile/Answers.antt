@@ -1,5 +1,5 @@
 use Rattle.std.proofs.Common.{◌≡◌, ℕ, Bool, false, arith}
-use Rattle.block_rule.specs.Around.{around, either, taken}
+use Rattle.block_rule.specs.Around.{around, either, taken_in_tile}
 use Rattle.block_rule.specs.TileBlocks.{NamesBlocks, walled_by}
 use Rattle.block_rule.proofs.BlockNames.{nothing_named, named_alone}
 use Rattle.block_rule.proofs.Borders.{shows_tile}
@@ -21,7 +21,7 @@ module _ (c : After-taken_among-took) where
   walled : NamesBlocks c.tile_blocks-rows-2.result.0 c.tile_blocks-rows-2.result.1 (walled_by (either w o))
   walled = c.tile_blocks-rows-2.ensures w o (c.window_of-2.ensures.seen c.args.wall_border.now c.neighbors-near_walls.ensures) of_obstacles
 
-  took : c.taken_among-took.result ≡ taken c.args.parity c.args.tile.now w o
+  took : c.taken_among-took.result ≡ taken_in_tile c.args.parity c.args.tile.now w o
   took = c.taken_among-took.ensures w o walled of_obstacles
 
 pub returns-then-parity-eq0 : goal.returns-then-parity-eq0

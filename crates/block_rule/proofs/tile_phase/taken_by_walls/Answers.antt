@@ -2,13 +2,13 @@ use Rattle.std.proofs.Common.{◌≡◌, ℕ, ℤ, ◌+ℤ◌, ◌-ℤ◌, ◌�
 use Rattle.std.proofs.lemmas.Int.{ints}
 use Rattle.bit_tile.specs.Tile.{has}
 use Rattle.bit_tile.specs.declared.Tile.{Tile}
-use Rattle.gas_terms.specs.Accounts.{pair_minus}
+use Rattle.gas_terms.specs.Accounts.{pair_minus, pair_plus}
 use Rattle.gas_terms.specs.declared.accounts.Pair.{Pair}
-use Rattle.block_rule.specs.Around.{either, is_for_walls, is_walled_at, twice_momentum, taken, plus}
+use Rattle.block_rule.specs.Around.{either, is_for_walls, is_walled_at, twice_momentum_in, taken_in_tile}
 use Rattle.block_rule.specs.TileBlocks.{walled_by}
 use Rattle.block_rule.proofs.Blank.{walled_either}
 use Rattle.block_rule.proofs.Holding.{none_took, is_counted}
-use Rattle.block_rule.proofs.Took.{twice_momentum-same, took_together, pair_same}
+use Rattle.block_rule.proofs.Took.{twice_momentum_in-same, took_together, pair_same}
 use Rattle.block_rule.proofs.NamedBlocks.{words_given, nothing_given}
 use Rattle.block_rule.proofs.tile_phase.taken_by_walls.Goals as goal
 
@@ -33,15 +33,15 @@ returns-in-Some-None c = λ walled obstructed of_all of_obstacles.
     let none = nothing_given c.args.obstacles (walled_by obstructed) c.in-Some-None.is-1 of_obstacles p c.requires in
     is_counted c.args.counted _ _ c.if-not-counted.false
     (c.momentum_by_set.ensures.is (either walled obstructed) (words_given c.args.all c.in-Some-None.all (walled_by (either walled obstructed)) c.in-Some-None.is-0 of_all)
-    ∙ twice_momentum-same p _ _ (λ x y h k. ap (λ w. has c.args.tile.now x y && w) (walls_alone (is_walled_at p walled x y) (is_walled_at p obstructed x y) (is_walled_at p (either walled obstructed) x y) (walled_either p walled obstructed x y) (none x y h k))))
+    ∙ twice_momentum_in-same p _ _ (λ x y h k. ap (λ w. has c.args.tile.now x y && w) (walls_alone (is_walled_at p walled x y) (is_walled_at p obstructed x y) (is_walled_at p (either walled obstructed) x y) (walled_either p walled obstructed x y) (none x y h k))))
 
 regroup : (a w o : Bool) → (a && (w && not o)) ≡ ((a && w) && not o)
 regroup a w o = grind arith
 
-together : (p : ℕ) (t : Tile) (w o : ℕ → ℕ → Bool) → plus (twice_momentum p (λ x y. has t x y && is_for_walls p w o x y)) (twice_momentum p (λ x y. has t x y && is_walled_at p o x y)) ≡ twice_momentum p (λ x y. has t x y && is_walled_at p (either w o) x y)
+together : (p : ℕ) (t : Tile) (w o : ℕ → ℕ → Bool) → pair_plus (twice_momentum_in p (λ x y. has t x y && is_for_walls p w o x y)) (twice_momentum_in p (λ x y. has t x y && is_walled_at p o x y)) ≡ twice_momentum_in p (λ x y. has t x y && is_walled_at p (either w o) x y)
 together p t w o =
-    ap (λ a. plus a (twice_momentum p (λ x y. has t x y && is_walled_at p o x y))) (twice_momentum-same p _ _ (λ x y h k. regroup (has t x y) (is_walled_at p w x y) (is_walled_at p o x y)))
-    ∙ took_together p t w o (taken p t w o) refl
+    ap (λ a. pair_plus a (twice_momentum_in p (λ x y. has t x y && is_walled_at p o x y))) (twice_momentum_in-same p _ _ (λ x y h k. regroup (has t x y) (is_walled_at p w x y) (is_walled_at p o x y)))
+    ∙ took_together p t w o (taken_in_tile p t w o) refl
 
 pub minus-requires : goal.minus-requires
 minus-requires c =

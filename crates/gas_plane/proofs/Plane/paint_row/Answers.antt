@@ -2,14 +2,14 @@ use Rattle.std.proofs.Common.{◌<◌, ◌∙◌, arith}
 use Rattle.bit_tile.specs.Tile as tile
 use Rattle.gas_terms.specs.Cells.{extent}
 use Rattle.gas_plane.proofs.Places.{wide, tile_below}
-use Rattle.gas_plane.proofs.Painting.{in_row, painted_lattice, none_painted, same_painted, outside_columns, row_starts, row_ends, row_more, row_more_whole, row_same}
+use Rattle.gas_plane.proofs.Painting.{in_row, painted_lattice, none_painted, same_painted, outside_columns, painted_row_starts, painted_row_ends, row_more, row_more_whole, row_same}
 use Rattle.gas_plane.proofs.Plane.paint_row.Goals as goal
 use Rattle.gas_plane.proofs.Plane.paint_row.Goals.{then-is_covered, else-is_covered+in-Some, else-is_covered+in_default}
 
 pub loop-column-init : goal.loop-column-init
 loop-column-init c =
     none_painted c.args.self.now (in_row c.args.area c.args.row c.tiles_met-first.result.0) c.args.held c.across-across.ensures.lattice.full
-    (λ x y _ _. row_starts c.args.area c.args.row c.tiles_met-first.result.0 x y (λ less. outside_columns c.args.area x y (rw (c.x.ensures, c.w.ensures) at (c.tiles_met-first.ensures.before x less))))
+    (λ x y _ _. painted_row_starts c.args.area c.args.row c.tiles_met-first.result.0 x y (λ less. outside_columns c.args.area x y (rw (c.x.ensures, c.w.ensures) at (c.tiles_met-first.ensures.before x less))))
 
 pub paint_tile-requires-clause-lattice : goal.paint_tile-requires-clause-lattice
 paint_tile-requires-clause-lattice c = painted_lattice c.args.self.now c.loop-column.self (in_row c.args.area c.args.row c.loop-column.column) c.args.held c.across-across.ensures.lattice c.loop-column.invariant
@@ -32,6 +32,6 @@ pub returns : goal.returns
 returns c =
     c.loop-column.invariant
     ∙ same_painted c.args.self.now (in_row c.args.area c.args.row c.loop-column.column) _ c.args.held
-    (λ x y p q. row_ends c.args.area c.args.row c.loop-column.column x y
+    (λ x y p q. painted_row_ends c.args.area c.args.row c.loop-column.column x y
     (λ past. outside_columns c.args.area x y (rw (c.x.ensures, c.w.ensures) at (c.tiles_met-first.ensures.after x
     (rw c.across-across.ensures.across (tile_below c.args.self.now.width x (wide (extent c.args.self.now) c.across-across.ensures.lattice.sized) p)) (omega arith)))))

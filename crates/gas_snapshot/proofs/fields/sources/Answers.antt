@@ -2,9 +2,10 @@ use Rattle.std.proofs.Common.{◌≡◌, ◌++◌, ◌∷◌, [], ◌∙◌, ap,
 use Rattle.std.proofs.lemmas.List.{length-append}
 use Rattle.std.proofs.lemmas.Result.{err_from_is_err_and}
 use Rattle.gas_terms.specs.Gas.{Source}
+use Rattle.gas_snapshot.proofs.FieldLaws.{done}
 use Rattle.gas_ledger.specs.PortLists.{PortLists}
 use Rattle.gas_snapshot.specs.Reading.{many, source_at}
-use Rattle.gas_snapshot.proofs.Loops.{goes_on, ends, is_done, source_fails, source_refused, source_read, done}
+use Rattle.gas_snapshot.proofs.Loops.{goes_on, ends, is_done, source_fails, source_refused, source_read}
 use Rattle.gas_snapshot.proofs.fields.sources.Goals as goal
 
 pub returns-in_err-bytes-clause-sources : goal.returns-in_err-bytes-clause-sources

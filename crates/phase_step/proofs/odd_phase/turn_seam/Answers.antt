@@ -7,7 +7,7 @@ use Rattle.phase_step.specs.SolidBlocks.{is_walled_in}
 use Rattle.phase_step.specs.OddPhase.{IsRowThere, AreSeamsTurned}
 use Rattle.phase_step.proofs.RowTiles.{first_column}
 use Rattle.phase_step.proofs.RowWindows.{HasLast, has_last, window, walls_there, given_there, next_cells}
-use Rattle.phase_step.proofs.SeamRows.{upper_edge, lower_edge, seen_right, seen_corner, last_edge, last_bottom, last_top, row_begun, own_bottom, own_top, is_seam_edge, coming_in, seam_next, seam_row_turned}
+use Rattle.phase_step.proofs.SeamRows.{upper_edge, lower_edge, seen_right, seen_corner, last_edge, last_bottom, last_top, seam_row_begun, own_bottom, own_top, is_seam_edge, coming_in, seam_next, seam_row_turned}
 use Rattle.phase_step.specs.Solid.{all_of}
 use Rattle.phase_step.proofs.odd_phase.turn_seam.Goals as goal
 use Rattle.phase_step.proofs.odd_phase.turn_seam.Goals.{After-turned_seam}
@@ -55,7 +55,7 @@ loop-column-init c =
           (last_edge place column solid old lattice is less sized c.requires.row c.requires.below ready first under (first_are after) last) (window place column solid old lattice is less)
           (last_bottom place column solid old lattice is less sized c.requires.row c.requires.below ready first under (first_are after) last) (last_top place column solid old lattice is less sized c.requires.row c.requires.below ready first under (first_are after) last)
           (seen_right place column solid old lattice is less sized c.requires.row c.requires.below ready) (seen_corner place column solid old lattice is less sized c.requires.row c.requires.below ready) in
-          row_begun place column solid old lattice is less sized c.requires.row c.requires.below ready first under (first_are after) last c.turned_seam.result.leaving
+          seam_row_begun place column solid old lattice is less sized c.requires.row c.requires.below ready first under (first_are after) last c.turned_seam.result.leaving
           (c.turned_seam.ensures.leaving (window place column solid old lattice is less) (walls_there place column solid old lattice is less) shown named);
     }
 

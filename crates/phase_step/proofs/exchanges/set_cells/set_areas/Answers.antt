@@ -1,6 +1,6 @@
 use Rattle.std.proofs.Common.{◌≡◌, ◌+◌, ◌&&◌, Bool, true, false, not, refl, ap, arith}
 use Rattle.bit_tile.specs.Tile.{has}
-use Rattle.phase_step.specs.Counts.{changes}
+use Rattle.phase_step.specs.Counts.{cell_changes}
 use Rattle.phase_step.specs.Exchanges.{is_in_any}
 use Rattle.phase_step.proofs.TileChanges.{counts_as, no_counts}
 use Rattle.phase_step.proofs.exchanges.set_cells.set_areas.Goals as goal
@@ -14,14 +14,14 @@ all_change here kept change e f = grind arith
 
 pub returns-then-one_covers-clause-count : goal.returns-then-one_covers-clause-count
 returns-then-one_covers-clause-count c =
-    no_counts _ (λ x y h k. none_changes (is_in_any c.args.areas.now (c.args.left + x) (c.args.top + y)) (is_in_any c.args.kept.now (c.args.left + x) (c.args.top + y)) (changes c.args.held (has c.args.tile.now x y)) (c.if-one_covers.ensures refl x y h k))
+    no_counts _ (λ x y h k. none_changes (is_in_any c.args.areas.now (c.args.left + x) (c.args.top + y)) (is_in_any c.args.kept.now (c.args.left + x) (c.args.top + y)) (cell_changes c.args.held (has c.args.tile.now x y)) (c.if-one_covers.ensures refl x y h k))
 
 pub returns-then-are_apart-clause-count : goal.returns-then-are_apart-clause-count
 returns-then-are_apart-clause-count c =
-    counts_as _ _ _ c.set_all.ensures.count (λ x y h k. all_change (is_in_any c.args.areas.now (c.args.left + x) (c.args.top + y)) (is_in_any c.args.kept.now (c.args.left + x) (c.args.top + y)) (changes c.args.held (has c.args.tile.now x y)) (c.if-one_covers-2.ensures refl x y h k) (c.if-are_apart.ensures refl x y h k))
+    counts_as _ _ _ c.set_all.ensures.count (λ x y h k. all_change (is_in_any c.args.areas.now (c.args.left + x) (c.args.top + y)) (is_in_any c.args.kept.now (c.args.left + x) (c.args.top + y)) (cell_changes c.args.held (has c.args.tile.now x y)) (c.if-one_covers-2.ensures refl x y h k) (c.if-are_apart.ensures refl x y h k))
 
 pub returns-in-None-clause-count : goal.returns-in-None-clause-count
-returns-in-None-clause-count c = no_counts _ (λ x y h k. ap (λ b. b && changes c.args.held (has c.args.tile.now x y)) (c.in-None.ensures x y h k))
+returns-in-None-clause-count c = no_counts _ (λ x y h k. ap (λ b. b && cell_changes c.args.held (has c.args.tile.now x y)) (c.in-None.ensures x y h k))
 
 pub returns-in-Some-clause-count : goal.returns-in-Some-clause-count
-returns-in-Some-clause-count c = counts_as _ _ _ c.set_cells.ensures.count (λ x y h k. ap (λ b. b && changes c.args.held (has c.args.tile.now x y)) (c.in-Some.ensures x y h k))
+returns-in-Some-clause-count c = counts_as _ _ _ c.set_cells.ensures.count (λ x y h k. ap (λ b. b && cell_changes c.args.held (has c.args.tile.now x y)) (c.in-Some.ensures x y h k))

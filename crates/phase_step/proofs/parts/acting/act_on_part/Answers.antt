@@ -10,7 +10,7 @@ use Rattle.phase_step.proofs.Amounts.{sum_next}
 use Rattle.phase_step.proofs.Exchanging.{nowhere_is_still}
 use Rattle.phase_step.proofs.FlowSums.{movements_add, IsMovedOf, moved_fits}
 use Rattle.phase_step.proofs.MadeCells.{all_acted, none_before, none_made, own_before, tile_before, tile_made, tile_stays}
-use Rattle.phase_step.proofs.OwnTiles.{lattice_is, own_cells, own_number, there_is, within_there}
+use Rattle.phase_step.proofs.OwnTiles.{lattice_is, own_cells, own_number, there_is, own_within_there}
 use Rattle.phase_step.proofs.PartActs.{corner_at, kept_at, kept_there, left_at, left_there, moves_there, stays_there, still_rows, still_own}
 use Rattle.phase_step.proofs.TileFlows.{tile_moves_few, tiles_move_few}
 use Rattle.phase_step.proofs.parts.acting.act_on_part.Goals as goal
@@ -44,7 +44,7 @@ corner c =
     let t = c.own_tiles-own in
     let cells = c.args.particles.now in
     let i = c.loop-i.i in
-    corner_at h.lattice c.across-across.result _ _ (lattice_is c.args.part cells h.lattice 64 is) (within_there c.args.part cells h.lattice i t.ensures.lattice.sized is.placed (t.ensures.own.each i c.loop-i.invariant.from c.loop-i-test.true))
+    corner_at h.lattice c.across-across.result _ _ (lattice_is c.args.part cells h.lattice 64 is) (own_within_there c.args.part cells h.lattice i t.ensures.lattice.sized is.placed (t.ensures.own.each i c.loop-i.invariant.from c.loop-i-test.true))
     (c.across-across.ensures.across ∙ ap (λ w. w / 64) is.placed.wide) (there_is c.args.part cells h.lattice i t.result.first t.result.there is.placed t.ensures.own.first t.ensures.own.there)
 
 pub meets-requires : goal.meets-requires
@@ -70,13 +70,13 @@ loop-i-preserved-then-not-meets c =
       made = λ lattice is.
           let j = tile_in part (lattice.width / 64) i in
           let kept = kept_at leaves lattice c.across-across.result j _ (c.across-across.ensures.across ∙ ap (λ w. w / 64) is.placed.wide) (there_is part cells lattice i t.result.first t.result.there is.placed t.ensures.own.first t.ensures.own.there) (c.meets.ensures c.if-not-meets.true) in
-          tile_stays part cells lattice (acted leaves lattice) c.loop-i.particles i t.ensures.lattice.sized is own (c.loop-i.invariant.made lattice is) (kept_there leaves lattice j (lattice_is part cells lattice 64 is) (within_there part cells lattice i t.ensures.lattice.sized is.placed own) kept);
+          tile_stays part cells lattice (acted leaves lattice) c.loop-i.particles i t.ensures.lattice.sized is own (c.loop-i.invariant.made lattice is) (kept_there leaves lattice j (lattice_is part cells lattice 64 is) (own_within_there part cells lattice i t.ensures.lattice.sized is.placed own) kept);
       moved = λ lattice is.
           let j = tile_in part (lattice.width / 64) i in
           let kept = kept_at leaves lattice c.across-across.result j _ (c.across-across.ensures.across ∙ ap (λ w. w / 64) is.placed.wide) (there_is part cells lattice i t.result.first t.result.there is.placed t.ensures.own.first t.ensures.own.there) (c.meets.ensures c.if-not-meets.true) in
           movements_add.right c.loop-i.moved
           ∙ sum_next movements _ t.result.first i c.loop-i.moved _ low (c.loop-i.invariant.moved lattice is)
-          (stays_there tick leaves lattice j (lattice_is part cells lattice 64 is) (within_there part cells lattice i t.ensures.lattice.sized is.placed own) kept
+          (stays_there tick leaves lattice j (lattice_is part cells lattice 64 is) (own_within_there part cells lattice i t.ensures.lattice.sized is.placed own) kept
           ∙ ap (tile_moves tick lattice (acted leaves lattice)) (own_number part cells lattice i t.result.first is.placed t.ensures.own.first));
     }
 
@@ -89,7 +89,7 @@ module _ (c : After-moved-here) (lattice : Cells) (is : IsPartOf c.args.part c.a
   whole = lattice_is c.args.part c.args.particles.now lattice 64 is
 
   below : tile_in c.args.part (lattice.width / 64) c.loop-i.i < tile_count lattice
-  below = within_there c.args.part c.args.particles.now lattice c.loop-i.i c.own_tiles-own.ensures.lattice.sized is.placed (own c)
+  below = own_within_there c.args.part c.args.particles.now lattice c.loop-i.i c.own_tiles-own.ensures.lattice.sized is.placed (own c)
 
   from : (let r = tile_rectangle lattice (tile_in c.args.part (lattice.width / 64) c.loop-i.i) in IsTileFrom c.tile_mut.result.now lattice r.x r.y)
   from =

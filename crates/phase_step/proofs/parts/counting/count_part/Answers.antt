@@ -8,7 +8,7 @@ use Rattle.phase_step.specs.Runs.{tiles_take}
 use Rattle.phase_step.specs.SolidBlocks.{AreTileSolids}
 use Rattle.phase_step.proofs.FlowSums.{counted_none}
 use Rattle.phase_step.proofs.Untaken.{own_untaken}
-use Rattle.phase_step.proofs.OwnTiles.{lattice_is, own_cells, own_number, there_below, there_is, within_there}
+use Rattle.phase_step.proofs.OwnTiles.{lattice_is, own_cells, own_number, there_below, there_is, own_within_there}
 use Rattle.phase_step.proofs.RowRuns.{sides_on}
 use Rattle.phase_step.proofs.TileFlows.{take_next, take_fits}
 use Rattle.phase_step.proofs.parts.counting.count_part.Goals as goal
@@ -52,7 +52,7 @@ takes c lattice sides is =
     let t = c.own_tiles-own in
     let sized = t.ensures.lattice.sized in
     let there = there_is part cells lattice i t.result.first t.result.there is.placed t.ensures.own.first t.ensures.own.there in
-    c.count_tile-here.ensures lattice s.walls s.obstacles (tile_in part (lattice.width / 64) i) (lattice_is part cells lattice 64 is) (within_there part cells lattice i sized is.placed (own c)) sides (sides_on _ _ _ s.sides sides)
+    c.count_tile-here.ensures lattice s.walls s.obstacles (tile_in part (lattice.width / 64) i) (lattice_is part cells lattice 64 is) (own_within_there part cells lattice i sized is.placed (own c)) sides (sides_on _ _ _ s.sides sides)
     (subst (λ j. AreTileSolids s.walls s.obstacles j c.in_tile-tile_solids.result) there c.in_tile-tile_solids.ensures)
     (own_cells part cells lattice i c.tile.result.now sized is (own c) c.tile.ensures)
     ∙ ap (λ j. counted_of c.args.counted (taken_in (pos c.args.parity) lattice s.walls s.obstacles (tile_rectangle lattice j))) (own_number part cells lattice i t.result.first is.placed t.ensures.own.first)

@@ -1,7 +1,7 @@
 use Rattle.std.proofs.Common.{◌≡◌, ◌*◌, ◌-◌, ◌/◌, ◌≤◌, sym, subst, arith}
 use Rattle.gas_terms.specs.Cells.{Cells, HasSidesOf}
 use Rattle.phase_step.specs.Parts.{part_run, HasRun}
-use Rattle.phase_step.specs.Runs.{after}
+use Rattle.phase_step.specs.Runs.{particles_after}
 use Rattle.phase_step.specs.WholeRuns.{dynamics}
 use Rattle.phase_step.specs.declared.parts.Part.{Part}
 use Rattle.phase_step.proofs.RowRuns.{whole_held, whole_same, whole_flow}
@@ -26,7 +26,7 @@ returns-then-not-is_counted g c =
     let run = c.args.run in
     let s = run.solids.now in
     still_run run.parity s.walls s.obstacles (g.A.Action.leaves run.action.now) c.args.particles.now c.shows_lattice.ensures (λ k. c.acts.ensures c.if-not-acts.true k) c.args.counted run.n c.turn_on.new.particles c.requires.walls c.requires.obstacles (c.is_counted.ensures c.if-not-is_counted.true)
-    (subst (λ (solid : Cells). c.turn_on.new.particles ≡ after run.parity solid c.args.particles.now run.n) c.of.ensures c.turn_on.ensures)
+    (subst (λ (solid : Cells). c.turn_on.new.particles ≡ particles_after run.parity solid c.args.particles.now run.n) c.of.ensures c.turn_on.ensures)
 
 pub returns : goal.returns
 returns g c =

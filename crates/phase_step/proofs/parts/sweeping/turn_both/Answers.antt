@@ -3,7 +3,7 @@ use Rattle.gas_terms.specs.Gas.{streamed}
 use Rattle.phase_step.specs.OddPhase.{IsRowThere, HasRow, IsEvenRowTurned}
 use Rattle.phase_step.specs.declared.odd_phase.RowPlace.{RowPlace}
 use Rattle.gas_terms.proofs.Steps.{full_streamed}
-use Rattle.phase_step.proofs.TwoPhases.{place_in, place_is, row_there_is, first_turned, all_turned_twice}
+use Rattle.phase_step.proofs.TwoPhases.{place_in_whole, place_in_whole_is, whole_row_there_is, first_turned, all_turned_twice}
 use Rattle.phase_step.specs.Solid.{all_of}
 use Rattle.phase_step.proofs.parts.sweeping.turn_both.Goals as goal
 
@@ -14,11 +14,11 @@ loop-row-init c =
     let of = c.down-down.ensures.lattice in
     let mid = streamed 0 old solid in
     let next = streamed 1 mid solid in
-    let place = place_in old 0 in
-    let same : c.place_of.result ≡ place = place_is c.place_of.result old 0 c.place_of.ensures.row (c.place_of.ensures.below ∙ ap (λ n. (0 + 1) % n) c.down-down.ensures.down) c.place_of.ensures.there in
+    let place = place_in_whole old 0 in
+    let same : c.place_of.result ≡ place = place_in_whole_is c.place_of.result old 0 c.place_of.ensures.row (c.place_of.ensures.below ∙ ap (λ n. (0 + 1) % n) c.down-down.ensures.down) c.place_of.ensures.there in
     let low : 0 < old.height / 64 = let d = c.down-down.ensures.down in let p = c.down-down.ensures.positive in omega (arith, d, p) in
     let made = c.turn_even_row.ensures.turned old
-    (subst (λ (p : RowPlace). IsRowThere p solid old old) (sym same) (row_there_is solid old old 0 of.sized c.requires.solid (record { wide = refl; high = refl }) low))
+    (subst (λ (p : RowPlace). IsRowThere p solid old old) (sym same) (whole_row_there_is solid old old 0 of.sized c.requires.solid (record { wide = refl; high = refl }) low))
     (subst (λ (p : RowPlace). HasRow p old.width old old) (sym same) (λ x y h k. refl)) in
     record {
       sides = c.turn_even_row.ensures.sides;

@@ -4,7 +4,7 @@ use Rattle.gas_terms.specs.Cells.{tile_count}
 use Rattle.gas_plane.specs.Planes.{with_tile}
 use Rattle.gas_plane.proofs.PlaneCounts.{few_tiles}
 use Rattle.claim_desk.specs.Draws.{times}
-use Rattle.phase_team.specs.Tiles.{tiles_take}
+use Rattle.phase_team.specs.Tiles.{numbered_tiles_take}
 use Rattle.phase_strips.proofs.Copies.{lattice_kept}
 use Rattle.phase_team.proofs.Places.{sides_kept, write_more}
 use Rattle.phase_team.proofs.Takings.{take_more, more_fits}
@@ -44,6 +44,6 @@ loop-place-preserved g c =
             write_more task.parity task.old.now task.walls.now task.obstacles.now out next numbers place t was.turned.lattice was.turned.sides within c.turn-here.ensures.cells (λ k. next) was.turned.turned i inside
             (subst (λ ns. 0 < times i ns) some.1 some_time);
         took = c.plus-took.ensures ∙ (take_more task.parity task.old.now task.walls.now task.obstacles.now numbers place c.loop-place.took c.turn-here.result was.turned.took c.turn-here.ensures.took
-            ∙ ap (tiles_take task.parity task.old.now task.walls.now task.obstacles.now) (sym some.1));
+            ∙ ap (numbered_tiles_take task.parity task.old.now task.walls.now task.obstacles.now) (sym some.1));
       };
     }

@@ -8,7 +8,7 @@ use Rattle.gas_plane.proofs.PlaneCounts.{few_tiles}
 use Rattle.claim_desk.specs.Desk.{SeatView}
 use Rattle.claim_desk.specs.Draws.{times}
 use Rattle.claim_desk.proofs.Laws.{times-append}
-use Rattle.phase_team.specs.Tiles.{tiles_take}
+use Rattle.phase_team.specs.Tiles.{numbered_tiles_take}
 use Rattle.phase_team.specs.Teamwork.{HasWorked, IsRight, drawn}
 use Rattle.phase_team.specs.declared.phase.worker.Turned.{Turned}
 use Rattle.phase_team.proofs.DrawnNumbers.{drawn_push, still_ended}
@@ -68,6 +68,6 @@ loop-worker-preserved c =
             (λ mine. c.write_out.ensures.new i within (subst (λ ns. 0 < times i ns) (sym places) mine))
             (λ other. c.write_out.ensures.kept i within (was.turned.turned i within (omega arith)));
         took = c.plus-took.ensures ∙ (take_both task.parity task.old.now task.walls.now task.obstacles.now numbers others c.loop-worker.took c.in-Some.worker.took was.turned.took worked.took
-            ∙ ap (tiles_take task.parity task.old.now task.walls.now task.obstacles.now) (sym all));
+            ∙ ap (numbered_tiles_take task.parity task.old.now task.walls.now task.obstacles.now) (sym all));
       };
     }

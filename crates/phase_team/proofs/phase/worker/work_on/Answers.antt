@@ -2,7 +2,7 @@ use Rattle.std.proofs.Common.{rules, arith, ◌++◌, ◌∷◌, [], ℕ, List, 
 use Rattle.std.proofs.lemmas.List.{map_push, length_push}
 use Rattle.std.proofs.lemmas.List.Elements.{All-push}
 use Rattle.gas_plane.proofs.PlaneCounts.{few_tiles}
-use Rattle.phase_team.specs.Tiles.{tiles_take}
+use Rattle.phase_team.specs.Tiles.{numbered_tiles_take}
 use Rattle.phase_team.specs.Teamwork.{IsRight}
 use Rattle.phase_team.specs.declared.phase.worker.Turned.{Turned}
 use Rattle.phase_team.proofs.Places.{on_ok}
@@ -37,6 +37,6 @@ loop-seat-preserved g c =
           ∙ (ap (λ (ns : List ℕ). ns ++ c.in-Some.place ∷ []) was.all_turned ∙ sym drawn.1)));
       right = subst (All P) (sym items) (All-push P _ _ (subst (All P) (sym c.reserve.ensures.items) was.right) (drawn.0, c.turn-here.ensures.cells));
       took = c.plus.ensures ∙ take_more task.parity task.old.now task.walls.now task.obstacles.now c.loop-seat.seat.numbers c.in-Some.place c.loop-seat.took c.turn-here.result was.took c.turn-here.ensures.took
-          ∙ ap (tiles_take task.parity task.old.now task.walls.now task.obstacles.now) (sym drawn.1);
+          ∙ ap (numbered_tiles_take task.parity task.old.now task.walls.now task.obstacles.now) (sym drawn.1);
       few = let long = ap length drawn.1 ∙ length_push c.loop-seat.seat.numbers c.in-Some.place in omega (arith, long, drawn.0, c.in-Some.ensures.later);
     }
