@@ -27,7 +27,7 @@ const LAST_READ_BYTES: usize = 16384;
 const LAST_READ_MILLISECONDS: u64 = 500;
 
 // Says that no more replies come, then reads and drops what the client still sends.
-fn part(stream: &TcpStream) -> io::Result<()> {
+fn close_and_drain(stream: &TcpStream) -> io::Result<()> {
     stream.shutdown(Shutdown::Write)?;
     stream.set_read_timeout(Some(Duration::from_millis(LAST_READ_MILLISECONDS)))?;
     let mut rest = stream;
@@ -59,7 +59,7 @@ impl Write for TcpReplies {
 impl Drop for TcpReplies {
     fn drop(self) {
         // The session is over, whether or not its client can be told so.
-        part(&self.stream).ok();
+        close_and_drain(&self.stream).ok();
         let TcpReplies { stream: _ } = self;
     }
 }
