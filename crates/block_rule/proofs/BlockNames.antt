@@ -35,15 +35,15 @@ nothing_named =
     nothing n i k = ap (λ w. bit w i) (get_or-replicate_zero n k) ∙ bit-zero i
 
 -- what is named by one test is named by another that says the same
-pub names_same : (told : ℕ) (b : TileBlocks) (test other : ℕ → ℕ → ℕ → Bool) → ((p x y : ℕ) → p < 2 → x < 64 → y < 64 → test p x y ≡ other p x y) → NamesBlocks told b test → NamesBlocks told b other
-names_same told b test other same are = grind (arith)
+pub names_same : (row_pairs : ℕ) (b : TileBlocks) (test other : ℕ → ℕ → ℕ → Bool) → ((p x y : ℕ) → p < 2 → x < 64 → y < 64 → test p x y ≡ other p x y) → NamesBlocks row_pairs b test → NamesBlocks row_pairs b other
+names_same row_pairs b test other same are = grind (arith)
 
 or_false : (a : Bool) → (a || false) ≡ a
 or_false a = grind arith
 
-pub named_alone : (told : ℕ) (b : TileBlocks) (window : ℕ → ℕ → Bool) → NamesBlocks told b (walled_by (either window (λ _ _. false))) → NamesBlocks told b (walled_by window)
-named_alone told b window =
-    names_same told b (walled_by (either window (λ _ _. false))) (walled_by window) (λ p x y _ _ _. walled_either p window (λ _ _. false) x y ∙ or_false (is_walled_at p window x y))
+pub named_alone : (row_pairs : ℕ) (b : TileBlocks) (window : ℕ → ℕ → Bool) → NamesBlocks row_pairs b (walled_by (either window (λ _ _. false))) → NamesBlocks row_pairs b (walled_by window)
+named_alone row_pairs b window =
+    names_same row_pairs b (walled_by (either window (λ _ _. false))) (walled_by window) (λ p x y _ _ _. walled_either p window (λ _ _. false) x y ∙ or_false (is_walled_at p window x y))
 
 -- any word of blocks that lie in rows 2 * j and 2 * j + 1, as the loop joins them
 abbrev pub any_of : TileBlocks → ℕ → ℕ
@@ -150,29 +150,29 @@ even_more words test from n w long here before i k h more below =
     ]
 
 -- and one bit more of the word that tells of them: it is set, or cleared where there is none
-module _ (b : TileBlocks) (told n : ℕ) (small : n < 32) (from : ℕ) (before : (k : ℕ) → from ≤ k → k < n → k < 32 → bit told k ≡ false → any_of b k ≡ 0) where
-  pub told_some : (k : ℕ) → from ≤ k → k < n + 1 → k < 32 → bit (bit_or told (1 * 2 ^ n % 2 ^ 32)) k ≡ false → any_of b k ≡ 0
+module _ (b : TileBlocks) (row_pairs n : ℕ) (small : n < 32) (from : ℕ) (before : (k : ℕ) → from ≤ k → k < n → k < 32 → bit row_pairs k ≡ false → any_of b k ≡ 0) where
+  pub told_some : (k : ℕ) → from ≤ k → k < n + 1 → k < 32 → bit (bit_or row_pairs (1 * 2 ^ n % 2 ^ 32)) k ≡ false → any_of b k ≡ 0
   told_some k more below _ e =
       elim (cases_eq k n) [
-        | inl same ↦ let set = bit_of_set_same told n k small same in cc
-        | inr other ↦ before k more (omega (arith, below, other)) (omega (arith, below, small)) (sym (bit_of_set_other told n k small other) ∙ e)
+        | inl same ↦ let set = bit_of_set_same row_pairs n k small same in cc
+        | inr other ↦ before k more (omega (arith, below, other)) (omega (arith, below, small)) (sym (bit_of_set_other row_pairs n k small other) ∙ e)
       ]
 
-  pub told_none : any_of b n ≡ 0 → (k : ℕ) → from ≤ k → k < n + 1 → k < 32 → bit (bit_and told (bit_not w32 (1 * 2 ^ n % 2 ^ 32))) k ≡ false → any_of b k ≡ 0
+  pub told_none : any_of b n ≡ 0 → (k : ℕ) → from ≤ k → k < n + 1 → k < 32 → bit (bit_and row_pairs (bit_not w32 (1 * 2 ^ n % 2 ^ 32))) k ≡ false → any_of b k ≡ 0
   told_none none k more below row e =
       elim (cases_eq k n) [
         | inl same ↦ rw same none
         | inr other ↦ before k more (omega (arith, below, other)) row (sym (cleared k row other) ∙ e)
       ]
     where
-      cleared : (k : ℕ) → k < 32 → (k ≡ n → ⊥) → bit (bit_and told (bit_not w32 (1 * 2 ^ n % 2 ^ 32))) k ≡ bit told k
-      cleared k row other = bit_of_clear told n k small row ∙ rw (ne_eqb k n other) refl
+      cleared : (k : ℕ) → k < 32 → (k ≡ n → ⊥) → bit (bit_and row_pairs (bit_not w32 (1 * 2 ^ n % 2 ^ 32))) k ≡ bit row_pairs k
+      cleared k row other = bit_of_clear row_pairs n k small row ∙ rw (ne_eqb k n other) refl
 
-pub rest_set : (told rows n k : ℕ) → n < 32 → (k ≡ n → ⊥) → bit told k ≡ bit rows k → bit (bit_or told (1 * 2 ^ n % 2 ^ 32)) k ≡ bit rows k
-rest_set told rows n k small other same = bit_of_set_other told n k small other ∙ same
+pub rest_set : (row_pairs rows n k : ℕ) → n < 32 → (k ≡ n → ⊥) → bit row_pairs k ≡ bit rows k → bit (bit_or row_pairs (1 * 2 ^ n % 2 ^ 32)) k ≡ bit rows k
+rest_set row_pairs rows n k small other same = bit_of_set_other row_pairs n k small other ∙ same
 
-pub rest_cleared : (told rows n k : ℕ) → n < 32 → k < 32 → (k ≡ n → ⊥) → bit told k ≡ bit rows k → bit (bit_and told (bit_not w32 (1 * 2 ^ n % 2 ^ 32))) k ≡ bit rows k
-rest_cleared told rows n k small row other same = bit_of_clear told n k small row ∙ rw (ne_eqb k n other) same
+pub rest_cleared : (row_pairs rows n k : ℕ) → n < 32 → k < 32 → (k ≡ n → ⊥) → bit row_pairs k ≡ bit rows k → bit (bit_and row_pairs (bit_not w32 (1 * 2 ^ n % 2 ^ 32))) k ≡ bit rows k
+rest_cleared row_pairs rows n k small row other same = bit_of_clear row_pairs n k small row ∙ rw (ne_eqb k n other) same
 
 -- of windows that differ in some rows alone, the blocks elsewhere are the same
 module _ (from end : ℕ) (before now : ℕ → ℕ → Bool) (differ : DifferInRows from end before now) where
@@ -237,9 +237,9 @@ module _ (from end : ℕ) (before now : ℕ → ℕ → Bool) (differ : DifferIn
           let half : 2 * j / 2 ≡ j = omega arith in
           ap (λ w. bit w i) (kept.rest j there) ∙ (are i j h k ∙ row_pair_same 0 (2 * i) (2 * j) (omega arith) (omega arith) (rw half far))
 
-  pub rows_renewed : (b : TileBlocks) (rows told n : ℕ) → ((m : ℕ) → m < 32 → n ≤ m → end ≤ m) → ((k : ℕ) → from - 1 ≤ k → k < n → k < 32 → bit told k ≡ false → any_of b k ≡ 0) → ((k : ℕ) → (k < from - 1) ⊎ (n ≤ k) → k < 32 → bit told k ≡ bit rows k)
-      → AreEvenBlocksOf b.even (is_walled_at 0 now) → AreOddBlocksOf b.odd (is_walled_at 1 now) → ((p : ℕ) → p < 2 → TellsRows rows (λ x y. is_walled_at p before x y)) → (p : ℕ) → p < 2 → TellsRows told (λ x y. is_walled_at p now x y)
-  rows_renewed b rows told n all made kept evens odds before_told p two x y h k e =
+  pub rows_renewed : (b : TileBlocks) (rows row_pairs n : ℕ) → ((m : ℕ) → m < 32 → n ≤ m → end ≤ m) → ((k : ℕ) → from - 1 ≤ k → k < n → k < 32 → bit row_pairs k ≡ false → any_of b k ≡ 0) → ((k : ℕ) → (k < from - 1) ⊎ (n ≤ k) → k < 32 → bit row_pairs k ≡ bit rows k)
+      → AreEvenBlocksOf b.even (is_walled_at 0 now) → AreOddBlocksOf b.odd (is_walled_at 1 now) → ((p : ℕ) → p < 2 → TellsRows rows (λ x y. is_walled_at p before x y)) → (p : ℕ) → p < 2 → TellsRows row_pairs (λ x y. is_walled_at p now x y)
+  rows_renewed b rows row_pairs n all made kept evens odds before_told p two x y h k e =
       elim (cases_lt (y / 2) (from - 1)) [
         | inl below ↦ same (inl below) (inl below)
         | inr more ↦ elim (cases_lt (y / 2) n) [

@@ -16,8 +16,8 @@ pub made_alike : (walled others : ℕ → Bool) (old new : Blocks) → ((i : ℕ
 made_alike walled others old new same is = grind arith
 
 -- a row of which a word tells that no block is walled
-pub free_words : (told j i : ℕ) (solid : ℕ → ℕ → Bool) → j < 32 → i < 32 → bit told j ≡ false → TellsRows told (is_walled_at 0 solid) → bit 0 i ≡ is_walled_at 0 solid (2 * i) (2 * j)
-free_words told j i solid below within none tells = let half : 2 * j / 2 ≡ j = omega arith in bit-zero i ∙ sym (tells (2 * i) (2 * j) (omega arith) (omega arith) (ap (bit told) half ∙ none))
+pub free_words : (row_pairs j i : ℕ) (solid : ℕ → ℕ → Bool) → j < 32 → i < 32 → bit row_pairs j ≡ false → TellsRows row_pairs (is_walled_at 0 solid) → bit 0 i ≡ is_walled_at 0 solid (2 * i) (2 * j)
+free_words row_pairs j i solid below within none tells = let half : 2 * j / 2 ≡ j = omega arith in bit-zero i ∙ sym (tells (2 * i) (2 * j) (omega arith) (omega arith) (ap (bit row_pairs) half ∙ none))
 
 -- eight rows that are made of a tile's and written to it
 pub rows_written : (from : ℕ) (solid : ℕ → ℕ → Bool) (rows : EightRows) (old new : Tile) → ((k : ℕ) → k < 8 → IsMade (λ i. turned_cell (is_walled_at 0 solid (2 * i) (2 * (from + k)))) (even_row old (from + k)) (eight_row rows k)) → ((k : ℕ) → k < 8 → even_row new (from + k) ≡ eight_row rows k)

@@ -77,29 +77,29 @@ pub turned_of_rows : (window solid : ℕ → ℕ → Bool) (out : Tile) → HasC
 turned_of_rows window solid out is x y h k = is x y h k ∙ sym (turned_by_cells 1 window (is_walled_at 1 solid x y) x y)
 
 -- before the first
-pub none_made : (told : ℕ) (begins ends : ℕ → ℕ) (t left right out : Tile) → AreMadeUpTo 0 told begins ends t left right out
-none_made told begins ends t left right out window solid shown named tells j below inside = absurd (omega arith)
+pub none_made : (row_pairs : ℕ) (begins ends : ℕ → ℕ) (t left right out : Tile) → AreMadeUpTo 0 row_pairs begins ends t left right out
+none_made row_pairs begins ends t left right out window solid shown named tells j below inside = absurd (omega arith)
 
 -- rows of which a word tells that no block is walled
 collided_alike : (a b c d : ℕ) (window : ℕ → ℕ → Bool) (y : ℕ) (new : Blocks) → ((i : ℕ) → i < 32 → bit a i ≡ bit c i) → ((i : ℕ) → i < 32 → bit b i ≡ bit d i) → IsCollidedOdd a b window y new → IsCollidedOdd c d window y new
 collided_alike a b c d window y new first last is = grind arith
 
-pub free_odd : (told j : ℕ) (begins ends : ℕ → ℕ) (solid window : ℕ → ℕ → Bool) (new : Blocks) → j < 32 → bit told j ≡ false → NameBlocks begins ends solid → TellsRows told (is_walled_at 1 solid) → IsCollidedOdd 0 0 window (2 * j + 2) new → IsCollidedOdd (begins (j + 1)) (ends (j + 1)) window (2 * j + 2) new
-free_odd told j begins ends solid window new below none named tells =
+pub free_odd : (row_pairs j : ℕ) (begins ends : ℕ → ℕ) (solid window : ℕ → ℕ → Bool) (new : Blocks) → j < 32 → bit row_pairs j ≡ false → NameBlocks begins ends solid → TellsRows row_pairs (is_walled_at 1 solid) → IsCollidedOdd 0 0 window (2 * j + 2) new → IsCollidedOdd (begins (j + 1)) (ends (j + 1)) window (2 * j + 2) new
+free_odd row_pairs j begins ends solid window new below none named tells =
     let half : (2 * j + 1) / 2 ≡ j = omega arith in
-    let free : (x : ℕ) → x < 64 → is_walled_at 1 solid x (2 * j + 1) ≡ false = λ x h. tells x (2 * j + 1) h (omega arith) (ap (bit told) half ∙ none) in
+    let free : (x : ℕ) → x < 64 → is_walled_at 1 solid x (2 * j + 1) ≡ false = λ x h. tells x (2 * j + 1) h (omega arith) (ap (bit row_pairs) half ∙ none) in
     collided_alike 0 0 (begins (j + 1)) (ends (j + 1)) window (2 * j + 2) new
     (λ i h. bit-zero i ∙ sym (begin_at begins ends solid named i (j + 1) (2 * i + 1) (2 * j + 1) h (omega arith) (odd_start i) (odd_start j ∙ omega arith) ∙ free (2 * i + 1) (omega arith)))
     (λ i h. bit-zero i ∙ sym (end_at begins ends solid named i (j + 1) (2 * i + 0) (2 * j + 1) h (omega arith) (even_start i) (odd_start j ∙ omega arith) ∙ free (2 * i + 0) (omega arith)))
 
 -- eight rows more
-pub eight_made : (n from to told : ℕ) (begins ends : ℕ → ℕ) (t left right old new : Tile) (rows : EightRows) → from ≤ n → from ≤ 23 → to ≤ 32 → (to ≡ from + 8) ⊎ (from ≡ 23)
-    → ((window solid : ℕ → ℕ → Bool) → ShowsInnerRows window t left right → NameBlocks begins ends solid → TellsRows told (is_walled_at 1 solid) → (k : ℕ) → k < 8 → IsCollidedOdd (begins (from + k + 1)) (ends (from + k + 1)) window (2 * (from + k) + 2) (eight_row rows k))
+pub eight_made : (n from to row_pairs : ℕ) (begins ends : ℕ → ℕ) (t left right old new : Tile) (rows : EightRows) → from ≤ n → from ≤ 23 → to ≤ 32 → (to ≡ from + 8) ⊎ (from ≡ 23)
+    → ((window solid : ℕ → ℕ → Bool) → ShowsInnerRows window t left right → NameBlocks begins ends solid → TellsRows row_pairs (is_walled_at 1 solid) → (k : ℕ) → k < 8 → IsCollidedOdd (begins (from + k + 1)) (ends (from + k + 1)) window (2 * (from + k) + 2) (eight_row rows k))
     → ((k : ℕ) → k < 8 → odd_row new (from + k) ≡ eight_row rows k)
     → ((j : ℕ) → (j < from) ⊎ (from + 8 ≤ j) → (get_or new.odd_odd j 0 ≡ get_or old.odd_odd j 0) × (get_or new.even_odd j 0 ≡ get_or old.even_odd j 0))
     → ((j : ℕ) → (j ≤ from) ⊎ (from + 8 < j) → (get_or new.odd_even j 0 ≡ get_or old.odd_even j 0) × (get_or new.even_even j 0 ≡ get_or old.even_even j 0))
-    → AreMadeUpTo n told begins ends t left right old → AreMadeUpTo to told begins ends t left right new
-eight_made n from to told begins ends t left right old new rows low few small reach made written upper_rest lower_rest before window solid shown named tells j below inside =
+    → AreMadeUpTo n row_pairs begins ends t left right old → AreMadeUpTo to row_pairs begins ends t left right new
+eight_made n from to row_pairs begins ends t left right old new rows low few small reach made written upper_rest lower_rest before window solid shown named tells j below inside =
     let rule = rule_among solid in
     let here : j < from + 8 = elim reach [ inl e ↦ omega arith | inr e ↦ omega arith ] in
     let row : (m : ℕ) → from ≤ m → m < from + 8 → AreMadeOdd rule window m (odd_row new m) =
@@ -114,11 +114,11 @@ eight_made n from to told begins ends t left right old new rows low few small re
     }
 
 -- a tile of whose rows all are made
-pub tile_made : (n told : ℕ) (begins ends : ℕ → ℕ) (t left right out : Tile) (ul ur ll lr : ℕ) (window solid : ℕ → ℕ → Bool) → 31 ≤ n → 31 < length out.odd_odd → 31 < length out.even_odd → AreMadeUpTo n told begins ends t left right out → ShowsInnerRows window t left right
-    → NameBlocks begins ends solid → TellsRows told (is_walled_at 1 solid) → get_or out.odd_even 0 0 ≡ ll → get_or out.even_even 0 0 ≡ lr
+pub tile_made : (n row_pairs : ℕ) (begins ends : ℕ → ℕ) (t left right out : Tile) (ul ur ll lr : ℕ) (window solid : ℕ → ℕ → Bool) → 31 ≤ n → 31 < length out.odd_odd → 31 < length out.even_odd → AreMadeUpTo n row_pairs begins ends t left right out → ShowsInnerRows window t left right
+    → NameBlocks begins ends solid → TellsRows row_pairs (is_walled_at 1 solid) → get_or out.odd_even 0 0 ≡ ll → get_or out.even_even 0 0 ≡ lr
     → AreLower (λ i. turned_cell (bit (begins 0) i)) (λ i. turned_cell (bit (ends 0) i)) window 0 ll lr → AreUpper (λ i. turned_cell (bit (begins 32) i)) (λ i. turned_cell (bit (ends 32) i)) window 64 ul ur
     → HasCells (record { even_even = out.even_even; odd_even = out.odd_even; even_odd = set out.even_odd 31 ur; odd_odd = set out.odd_odd 31 ul }) (turned_window 1 window solid)
-tile_made n told begins ends t left right out ul ur ll lr window solid all odd_long even_long made shown named tells odd_top even_top at_top at_bottom =
+tile_made n row_pairs begins ends t left right out ul ur ll lr window solid all odd_long even_long made shown named tells odd_top even_top at_top at_bottom =
     let rule = rule_among solid in
     let top = lower_named begins ends solid named window 0 (2 * 0 + 0) 0 ll lr (omega arith) (even_start 0) at_top in
     let last : block_start 1 (2 * 31 + 1) ≡ 2 * 32 = odd_start 31 in

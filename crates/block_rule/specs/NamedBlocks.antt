@@ -39,8 +39,8 @@ pub record AreWordsMade (window solid : ℕ → ℕ → Bool) (out : Tile) (j : 
   pub lower : AreLower (λ i. rule_among solid (2 * i + 1) (2 * (j + 1) + 0)) (λ i. rule_among solid (2 * i + 0) (2 * (j + 1) + 0)) window (2 * j + 2) (slice_index out.odd_even (j + 1)) (slice_index out.even_even (j + 1))
 
 abbrev pub AreMadeUpTo : ℕ → ℕ → (ℕ → ℕ) → (ℕ → ℕ) → Tile → Tile → Tile → Tile → Type 0
-AreMadeUpTo n told begins ends t left right out =
-    (window solid : ℕ → ℕ → Bool) → ShowsInnerRows window t left right → NameBlocks begins ends solid → TellsRows told (is_walled_at 1 solid) → (j : ℕ) → j < n → j < 31 → AreWordsMade window solid out j
+AreMadeUpTo n row_pairs begins ends t left right out =
+    (window solid : ℕ → ℕ → Bool) → ShowsInnerRows window t left right → NameBlocks begins ends solid → TellsRows row_pairs (is_walled_at 1 solid) → (j : ℕ) → j < n → j < 31 → AreWordsMade window solid out j
 
 -- The words name the blocks of even parity, or of odd, that are filled by the cells that pass the test. A block of odd parity is
 -- named by the tile's cell in it: row k of blocks is that of row 2 * k - 1, or of row 0.

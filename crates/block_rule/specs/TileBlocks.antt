@@ -6,10 +6,10 @@ use Rattle.block_rule.specs.declared.blocks_in_tile.TileBlocks.{TileBlocks}
 use Rattle.block_rule.specs.declared.blocks_in_tile.SetBlocks.{SetBlocks}
 
 -- The words name the blocks of each parity p whose cells in the tile pass the test of p, and one word tells in which rows they lie.
-pub record NamesBlocks (told : ℕ) (b : TileBlocks) (test : ℕ → ℕ → ℕ → Bool) : Type 0 where
+pub record NamesBlocks (row_pairs : ℕ) (b : TileBlocks) (test : ℕ → ℕ → ℕ → Bool) : Type 0 where
   pub even : AreEvenBlocksOf b.even (test 0)
   pub odd : AreOddBlocksOf b.odd (test 1)
-  pub rows : (p : ℕ) → p < 2 → TellsRows told (test p)
+  pub rows : (p : ℕ) → p < 2 → TellsRows row_pairs (test p)
 
 -- the words that are given for a tile: none if no block is walled
 abbrev pub AreGivenBlocks : Option SetBlocks → (ℕ → ℕ → ℕ → Bool) → Type 0

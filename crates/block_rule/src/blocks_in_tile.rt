@@ -107,17 +107,17 @@ fn renew_rows(rows: u32, blocks: &TileBlocks, from: usize, end: usize) -> u32
         (p : ℕ) → p < 2 → TellsRows result (walled_by now p) }
 {
     let TileBlocks { even, odd } = blocks;
-    let mut told = rows;
+    let mut row_pairs = rows;
     for j in from.saturating_sub(1)..end.min(32) {
         let above = odd.begin[j] | odd.end[j];
         let below = odd.begin[j + 1] | odd.end[j + 1];
         if even[j] | above | below != 0 {
-            told |= 1 << j;
+            row_pairs |= 1 << j;
         } else {
-            told &= !(1 << j);
+            row_pairs &= !(1 << j);
         }
     }
-    told
+    row_pairs
 }
 
 impl TileBlocks {

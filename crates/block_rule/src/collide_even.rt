@@ -63,7 +63,7 @@ fn write_eight(rows: &EightRows, from: usize, out: &mut Tile)
 fn collide_eight<W: Walled>(walled: W, from: usize, tile: &mut Tile)
     requires { from + 8 ≤ 32 }
     ensures { (solid : ℕ → ℕ → Bool) → NameEvenBlocks (W.evens walled) solid →
-        TellsRows (W.told walled) (is_walled_at 0 solid) →
+        TellsRows (W.row_pairs walled) (is_walled_at 0 solid) →
         AreCollidedEven from (from + 8) solid tile.old tile.new }
 {
     let rows = if bits_from(walled.rows(), from, 8) == 0 {
@@ -78,7 +78,7 @@ fn collide_eight<W: Walled>(walled: W, from: usize, tile: &mut Tile)
 #[inline(never)]
 pub fn collide_even<W: Walled>(walled: W, tile: &mut Tile)
     ensures { (window solid : ℕ → ℕ → Bool) → ShowsTile window tile.old →
-        NameEvenBlocks (W.evens walled) solid → TellsRows (W.told walled) (is_walled_at 0 solid) →
+        NameEvenBlocks (W.evens walled) solid → TellsRows (W.row_pairs walled) (is_walled_at 0 solid) →
         HasCells tile.new (turned_window 0 window solid) }
 {
     collide_eight(walled, 0, tile);

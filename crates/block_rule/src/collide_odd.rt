@@ -83,9 +83,9 @@ fn collided_eight<W: Walled>(
 fn collide_eight<W: Walled>(walled: W, tile: &Tile, near: &Round, from: usize, out: &mut Tile)
     requires { from < 24 }
     ensures made { (n to : ℕ) → from ≤ n → to ≤ 32 → (to ≡ from + 8) ⊎ (from ≡ 23) →
-        AreMadeUpTo n (W.told walled) (W.begins walled) (W.ends walled) tile.now
+        AreMadeUpTo n (W.row_pairs walled) (W.begins walled) (W.ends walled) tile.now
         near.now.left.now near.now.right.now out.old →
-        AreMadeUpTo to (W.told walled) (W.begins walled) (W.ends walled) tile.now
+        AreMadeUpTo to (W.row_pairs walled) (W.begins walled) (W.ends walled) tile.now
         near.now.left.now near.now.right.now out.new }
     ensures top { (slice_index out.new.odd_even 0 ≡ slice_index out.old.odd_even 0) ×
         (slice_index out.new.even_even 0 ≡ slice_index out.old.even_even 0) }
@@ -103,7 +103,7 @@ fn collide_eight<W: Walled>(walled: W, tile: &Tile, near: &Round, from: usize, o
 pub fn collide_odd<W: Walled>(walled: W, tile: &Tile, round: &Round, out: &mut Tile)
     ensures { (window solid : ℕ → ℕ → Bool) → ShowsTile window tile.now →
         ShowsAllRound window round.now → NameBlocks (W.begins walled) (W.ends walled) solid →
-        TellsRows (W.told walled) (is_walled_at 1 solid) →
+        TellsRows (W.row_pairs walled) (is_walled_at 1 solid) →
         HasCells out.new (turned_window 1 window solid) }
 {
     // The references are read once.

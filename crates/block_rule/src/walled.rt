@@ -18,7 +18,7 @@ pub fn bits_from(rows: u32, from: usize, n: u32) -> u32
 /// The walled blocks of a tile, as words like those of `TileBlocks`: of no set, or of one. Bit j of `rows` is 0 only if no
 /// walled block lies in the tile's rows 2 * j and 2 * j + 1.
 pub trait Walled: Copy {
-    ghost told: { Self → ℕ };
+    ghost row_pairs: { Self → ℕ };
 
     ghost evens: { Self → ℕ → ℕ };
 
@@ -27,7 +27,7 @@ pub trait Walled: Copy {
     ghost ends: { Self → ℕ → ℕ };
 
     fn rows(self) -> u32
-        ensures { result ≡ told self };
+        ensures { result ≡ row_pairs self };
 
     fn even(self, k: usize) -> u32
         requires { k < 32 }
@@ -47,7 +47,7 @@ pub trait Walled: Copy {
 pub struct NoBlocks;
 
 impl Walled for NoBlocks {
-    ghost told = { λ _. 0 };
+    ghost row_pairs = { λ _. 0 };
 
     ghost evens = { λ _ _. 0 };
 
@@ -83,7 +83,7 @@ pub struct OfSet<'a> {
 }
 
 impl<'a> Walled for OfSet<'a> {
-    ghost told = { λ b. b.set.rows };
+    ghost row_pairs = { λ b. b.set.rows };
 
     ghost evens = { λ b k. slice_index b.set.blocks.now.even k };
 

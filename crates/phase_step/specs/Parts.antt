@@ -86,7 +86,7 @@ pub record IsPartOf (part : Part) (cells lattice : Cells) (k : ℕ) : Type 0 whe
   pub rows : HasRows part cells lattice k
 
 -- the same with some lattice
-pub record IsOfSome (part : Part) (cells : Cells) (k : ℕ) : Type 0 where
+pub record IsPartOfSome (part : Part) (cells : Cells) (k : ℕ) : Type 0 where
   pub lattice : Cells
   pub is : IsPartOf part cells lattice k
 

@@ -4,7 +4,7 @@
 ghost use Rattle.std.specs.Prelude.{◌≡◌, ◌+◌, ◌%◌, ◌<◌, ◌≤◌};
 ghost use Rattle.gas_terms.specs.Cells.{tile_count};
 ghost use Rattle.gas_plane.specs.Planes.{IsLattice};
-ghost use Rattle.phase_step.specs.Parts.{start_of, AreOwn, IsOfSome, whole_part};
+ghost use Rattle.phase_step.specs.Parts.{start_of, AreOwn, IsPartOfSome, whole_part};
 
 mod acting;
 mod counting;
@@ -40,7 +40,7 @@ pub struct OwnTiles {
 
 /// The own tiles of such a part.
 pub fn own_tiles(part: Part, cells: &Plane) -> OwnTiles
-    requires { IsOfSome part cells.now 64 }
+    requires { IsPartOfSome part cells.now 64 }
     ensures lattice { IsLattice cells.now }
     ensures order { (result.first ≤ result.end) × (result.end ≤ tile_count cells.now) }
     ensures own { AreOwn part cells.now result }

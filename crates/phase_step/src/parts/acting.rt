@@ -7,7 +7,7 @@ ghost use Rattle.gas_terms.specs.Accounts.{moved_by};
 ghost use Rattle.gas_plane.specs.Planes.{IsLattice};
 ghost use Rattle.phase_step.specs.Actions.{acted};
 ghost use Rattle.phase_step.specs.Exchanges.{leaves_of};
-ghost use Rattle.phase_step.specs.Parts.{own_moves, IsPartOf, IsOfSome};
+ghost use Rattle.phase_step.specs.Parts.{own_moves, IsPartOf, IsPartOfSome};
 
 use crate::exchanges::{Action, Exchange};
 use crate::parts::{Part, own_tiles, whole};
@@ -18,7 +18,7 @@ use gas_terms::Moved;
 // and goes out.
 fn act_on_part(particles: &mut Plane, exchange: &Exchange, part: Part, parity: u8) -> Moved
     requires parity { parity < 2 }
-    requires some { IsOfSome part particles.old 64 }
+    requires some { IsPartOfSome part particles.old 64 }
     ensures sides { HasSidesOf particles.new particles.old }
     ensures rows { (lattice : Cells) → IsPartOf part particles.old lattice 64 →
         IsPartOf part particles.new (acted (leaves_of exchange.now) lattice) 64 }
@@ -57,7 +57,7 @@ pub fn act_after<A: Action>(
     parity: u8,
 ) -> Moved
     requires parity { parity < 2 }
-    requires some { IsOfSome part particles.old 64 }
+    requires some { IsPartOfSome part particles.old 64 }
     ensures sides { HasSidesOf particles.new particles.old }
     ensures rows { (lattice : Cells) → IsPartOf part particles.old lattice 64 →
         IsPartOf part particles.new (acted (A.leaves action.now k) lattice) 64 }

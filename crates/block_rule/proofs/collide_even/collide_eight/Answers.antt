@@ -6,7 +6,7 @@ use Rattle.block_rule.proofs.collide_even.collide_eight.Goals as goal
 use Rattle.block_rule.proofs.collide_even.collide_eight.Goals.{then-bits_from-eq0, else-bits_from-eq0}
 
 pub returns : goal.returns
-returns g c = λ solid named told.
+returns g c = λ solid named row_pairs.
     let from = c.args.from in
     let old = c.args.tile.now in
     rows_written from solid c.if-bits_from-eq0.rows old c.write_eight.new.out
@@ -15,7 +15,7 @@ returns g c = λ solid named told.
       | then-bits_from-eq0 v ↦
           rw v.rows-is
           (made_alike (bit 0) _ (even_row old (from + k)) (eight_row v.collided_eight-rows.result k)
-          (λ i h. free_words (g.W.Walled.told c.args.walled) (from + k) i solid (omega arith) h (ap (λ rows. bit rows (from + k)) (sym c.rows.ensures) ∙ c.bits_from.ensures v.if-bits_from-eq0.true (from + k) (omega arith) (omega arith)) told)
+          (λ i h. free_words (g.W.Walled.row_pairs c.args.walled) (from + k) i solid (omega arith) h (ap (λ rows. bit rows (from + k)) (sym c.rows.ensures) ∙ c.bits_from.ensures v.if-bits_from-eq0.true (from + k) (omega arith) (omega arith)) row_pairs)
           (v.collided_eight-rows.ensures k few))
       | else-bits_from-eq0 v ↦
           rw v.rows-is

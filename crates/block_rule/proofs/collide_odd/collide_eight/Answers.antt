@@ -10,15 +10,15 @@ returns-clause-made g c = λ n to low small reach before.
     let w = c.args.walled in
     let begins = g.W.Walled.begins w in
     let ends = g.W.Walled.ends w in
-    let told = g.W.Walled.told w in
+    let row_pairs = g.W.Walled.row_pairs w in
     let near = c.args.near.now in
     let from = c.args.from in
-    eight_made n from to told begins ends c.args.tile.now near.left.now near.right.now c.args.out.now c.write_eight.new.out c.if-bits_from-eq0.rows low (omega arith) small reach
+    eight_made n from to row_pairs begins ends c.args.tile.now near.left.now near.right.now c.args.out.now c.write_eight.new.out c.if-bits_from-eq0.rows low (omega arith) small reach
     (λ window solid shown named tells k few.
     elim c.if-bits_from-eq0.branch [
       | then-bits_from-eq0 v ↦
           rw v.rows-is
-          (free_odd told (from + k) begins ends solid window (eight_row v.collided_eight-rows.result k) (omega arith) (ap (λ rows. bit rows (from + k)) (sym c.rows.ensures) ∙ c.bits_from.ensures v.if-bits_from-eq0.true (from + k) (omega arith) (omega arith)) named tells
+          (free_odd row_pairs (from + k) begins ends solid window (eight_row v.collided_eight-rows.result k) (omega arith) (ap (λ rows. bit rows (from + k)) (sym c.rows.ensures) ∙ c.bits_from.ensures v.if-bits_from-eq0.true (from + k) (omega arith) (omega arith)) named tells
           (v.collided_eight-rows.ensures window shown k few))
       | else-bits_from-eq0 v ↦ rw v.rows-is (v.collided_eight-rows-else-bits_from-eq0.ensures window shown k few)
     ])
