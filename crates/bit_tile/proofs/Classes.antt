@@ -115,11 +115,8 @@ abbrev pub starts : ℕ → ℕ → ℕ
 starts zero x = (x + 1) / 2
 starts (suc _) x = x / 2
 
-bounds_of : (p x z i : ℕ) → p < 2 → (nat_le (starts p x) i && nat_lt i (starts p z)) ≡ (nat_le x (2 * i + p) && nat_lt (2 * i + p) z)
+pub bounds_of : (p x z i : ℕ) → p < 2 → (nat_le (starts p x) i && nat_lt i (starts p z)) ≡ (nat_le x (2 * i + p) && nat_lt (2 * i + p) z)
 bounds_of p x z i two = grind (arith, cases_eq, to_even, from_odd, to_odd)
-
-pub class_of_rect : (rows : List ℕ) (word p q x y z v : ℕ) → p < 2 → q < 2 → ((i : ℕ) → i < 32 → bit word i ≡ (nat_le (starts p x) i && nat_lt i (starts p z))) → ((i j : ℕ) → bit (get_or rows j 0) i ≡ (bit word i && nat_le (starts q y) j && nat_lt j (starts q v))) → IsClass rows p q (λ i j. nat_le x i && nat_lt i z && nat_le y j && nat_lt j v)
-class_of_rect rows word p q x y z v p_two q_two is_word is_rows i j in_row in_column = grind (arith, bounds_of)
 
 pub rows_more_within : (rows : List ℕ) (j w : ℕ) (test : ℕ → ℕ → Bool) → j < length rows → ((i k : ℕ) → i < 32 → k < j → bit (get_or rows k 0) i ≡ test i k) → ((i : ℕ) → i < 32 → bit w i ≡ test i j) → (i k : ℕ) → i < 32 → k < j + 1 → bit (get_or (set rows j w) k 0) i ≡ test i k
 rows_more_within rows j w test within before here i k in_row below = grind (arith, cases_eq, get_or-set_same, get_or-set_other)

@@ -64,9 +64,13 @@ class_count test i j i_two j_two =
     halves 32 (λ y. count_below 64 (λ x. test x y && x % 2 == i && y % 2 == j))
     ∙ sum_below-same 32 _ (λ k. count_below 32 (λ m. test (2 * m + i) (2 * k + j))) (λ k _. two_rows test i j k i_two j_two)
 
+-- what is counted in a class's rows is counted in its cells
+pub counted_of_class : (rows : ℕ → ℕ → Bool) (test : ℕ → ℕ → Bool) (i j n : ℕ) → i < 2 → j < 2 → n ≡ sum_below 32 (λ k. count_below 32 (λ m. rows m k)) → ((m k : ℕ) → m < 32 → k < 32 → rows m k ≡ test (2 * m + i) (2 * k + j)) → n ≡ sum_below 64 (λ y. count_below 64 (λ x. test x y && x % 2 == i && y % 2 == j))
+counted_of_class rows test i j n i_two j_two counted is = grind (arith, sum_below-same, count_below-same, class_count)
+
 -- the ones of a class's rows are its cells
 pub ones_of_class : (rows : List ℕ) (test : ℕ → ℕ → Bool) (i j n : ℕ) → i < 2 → j < 2 → n ≡ sum_below 32 (λ k. count_below 32 (bit (get_or rows k 0))) → ((m k : ℕ) → m < 32 → k < 32 → bit (get_or rows k 0) m ≡ test (2 * m + i) (2 * k + j)) → n ≡ sum_below 64 (λ y. count_below 64 (λ x. test x y && x % 2 == i && y % 2 == j))
-ones_of_class rows test i j n i_two j_two counted is = grind (arith, sum_below-same, count_below-same, class_count)
+ones_of_class rows test i j n i_two j_two counted is = counted_of_class (λ m k. bit (get_or rows k 0) m) test i j n i_two j_two counted is
 
 abbrev pub class : (ℕ → ℕ → Bool) → ℕ → ℕ → ℕ
 class has i j = sum_below 64 (λ y. count_below 64 (λ x. has x y && x % 2 == i && y % 2 == j))
@@ -78,6 +82,10 @@ four_classes count a b c d first second third fourth i j i_two j_two = grind (ar
 -- two tests that agree at each cell count the same
 pub cells_same : (p q : ℕ → ℕ → Bool) → ((x y : ℕ) → x < 64 → y < 64 → p x y ≡ q x y) → sum_below 64 (λ y. count_below 64 (λ x. p x y)) ≡ sum_below 64 (λ y. count_below 64 (λ x. q x y))
 cells_same p q same = sum_below-same 64 _ _ (λ y in_column. count_below-same 64 _ _ (λ x in_row. same x y in_row in_column))
+
+-- and two that agree count alike in each class
+pub class_same : (f g : ℕ → ℕ → Bool) (i j : ℕ) → ((x y : ℕ) → x < 64 → y < 64 → f x y ≡ g x y) → class f i j ≡ class g i j
+class_same f g i j same = cells_same _ _ (λ x y h k. ap (λ b. b && x % 2 == i && y % 2 == j) (same x y h k))
 
 -- one, as either part
 one_in_parts : (p r : Bool) → (if p then 1 else 0) ≡ (if p && r then 1 else 0) + (if p && not r then 1 else 0)

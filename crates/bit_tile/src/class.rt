@@ -3,7 +3,7 @@
 ghost use Rattle.std.specs.Prelude.{◌≡◌, ℕ, ◌+◌, ◌*◌, ◌/◌, ◌<◌, ◌≤◌, not, ◌&&◌, ◌||◌, ◌==◌, nat_lt, nat_le, if◌then◌else◌, slice_index, IsTrue};
 ghost use Rattle.bit_tile.specs.Bit.{bit};
 ghost use Rattle.bit_tile.specs.Sums.{sum_below, count_below};
-ghost use Rattle.bit_tile.specs.Tile.{in_class};
+ghost use Rattle.bit_tile.specs.Tile.{in_class, is_among_rows, cell_changes};
 
 use crate::word::joined;
 
@@ -21,17 +21,29 @@ pub fn span(first: u32, end: u32) -> u32
     }
 }
 
-/// A class that has the word in its rows from `first` up to `end`.
-pub fn rows_of(word: u32, first: u32, end: u32) -> [u32; 32]
-    requires order { first ≤ end }
-    requires within { end ≤ 32 }
-    ensures { (i j : ℕ) → in_class result i j ≡ (bit word i && nat_le first j && nat_lt j end) }
+/// Fills or empties the cells of the columns in the word in the rows of a class from the first number up to the second. Returns how
+/// many change.
+pub fn set_rows(class: &mut [u32; 32], word: u32, rows: (u32, u32), held: bool) -> u32
+    requires order { rows.0 ≤ rows.1 }
+    requires within { rows.1 ≤ 32 }
+    ensures cells { (i j : ℕ) → i < 32 → j < 32 → in_class class.new i j ≡
+        (if is_among_rows word rows.0 rows.1 i j then held else in_class class.old i j) }
+    ensures count { result ≡ sum_below 32 (λ j. count_below 32 (λ i.
+        is_among_rows word rows.0 rows.1 i j && cell_changes held (in_class class.old i j))) }
+    ensures bound { result ≤ 1024 }
 {
-    let mut rows = [0; 32];
-    for j in first as usize..end as usize {
-        rows[j] = word;
+    if word == 0 {
+        return 0;
     }
-    rows
+    let (first, end) = rows;
+    let flip = if held { u32::MAX } else { 0 };
+    let mut n = 0;
+    for j in first as usize..end as usize {
+        let changed = (class[j] ^ flip) & word;
+        n += changed.count_ones();
+        class[j] ^= changed;
+    }
+    n
 }
 
 /// Puts a cell of a class in, or takes it out.

@@ -11,7 +11,7 @@ mod row;
 mod word;
 
 pub use class::span;
-use class::{add, both, ones, put, remove, rows_of};
+use class::{add, both, ones, put, remove, set_rows};
 pub use row::counts_in_row;
 pub use word::joined;
 use word::{gather, in_turn};
@@ -28,7 +28,7 @@ pub struct Tile {
 }
 
 impl Tile {
-    ghost use Rattle.bit_tile.specs.Tile.{has, HasCells, is_inside, class_of, count_cells};
+    ghost use Rattle.bit_tile.specs.Tile.{has, HasCells, is_inside, class_of, count_cells, cell_changes};
 
     /// No cells.
     pub fn empty() -> Tile
@@ -60,14 +60,33 @@ impl Tile {
         requires bottom { y + h ≤ 64 }
         ensures { HasCells result (is_inside x y w h) }
     {
+        let mut tile = Tile::empty();
+        tile.set_rect(x, y, w, h, true);
+        tile
+    }
+
+    /// Fills or empties the cells of the rectangle of width w and height h from (x, y). Returns how many change in each class of
+    /// columns and rows: even column and even row, odd and even, even and odd, odd and odd.
+    pub fn set_rect(&mut self, x: u32, y: u32, w: u32, h: u32, held: bool) -> [u32; 4]
+        requires right { x + w ≤ 64 }
+        requires bottom { y + h ≤ 64 }
+        ensures cells { HasCells self.new (λ i j.
+            if is_inside x y w h i j then held else has self.old i j) }
+        ensures changed { (a b : ℕ) → a < 2 → b < 2 → slice_index result (2 * b + a) ≡
+            count_cells (λ i j. is_inside x y w h i j && cell_changes held (has self.old i j)
+            && i % 2 == a && j % 2 == b) }
+        ensures bound { (k : ℕ) → slice_index result k ≤ 2048 }
+    {
         let even_columns = span((x + 1) / 2, (x + w + 1) / 2);
         let odd_columns = span(x / 2, (x + w) / 2);
-        Tile {
-            even_even: rows_of(even_columns, (y + 1) / 2, (y + h + 1) / 2),
-            odd_even: rows_of(odd_columns, (y + 1) / 2, (y + h + 1) / 2),
-            even_odd: rows_of(even_columns, y / 2, (y + h) / 2),
-            odd_odd: rows_of(odd_columns, y / 2, (y + h) / 2),
-        }
+        let even_rows = ((y + 1) / 2, (y + h + 1) / 2);
+        let odd_rows = (y / 2, (y + h) / 2);
+        [
+            set_rows(&mut self.even_even, even_columns, even_rows, held),
+            set_rows(&mut self.odd_even, odd_columns, even_rows, held),
+            set_rows(&mut self.even_odd, even_columns, odd_rows, held),
+            set_rows(&mut self.odd_odd, odd_columns, odd_rows, held),
+        ]
     }
 
     /// Whether the tile has the cell in column x of row y.

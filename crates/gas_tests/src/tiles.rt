@@ -70,6 +70,23 @@ fn rectangles_end_at_their_edges(rt: HostRuntime) {
 }
 
 #[test]
+fn rectangles_are_filled_and_emptied(rt: HostRuntime) {
+    // Two squares of 16 cells, 4 of each class, that have one cell of each class in common.
+    let mut tile = Tile::empty();
+    let filled = tile.set_rect(0, 0, 4, 4, true);
+    expect_same(&rt, filled.as_slice(), [4, 4, 4, 4].as_slice());
+    let more = tile.set_rect(2, 2, 4, 4, true);
+    expect_same(&rt, more.as_slice(), [3, 3, 3, 3].as_slice());
+    expect_same(&rt, tile.count(), 28);
+
+    // Column 0 has cells in rows 0 to 3.
+    let emptied = tile.set_rect(0, 0, 1, 64, false);
+    expect_same(&rt, emptied.as_slice(), [2, 0, 2, 0].as_slice());
+    let cells = [(0, 0, false), (1, 3, true), (5, 5, true), (0, 3, false)];
+    expect_cells(&rt, &tile, &cells);
+}
+
+#[test]
 fn tiles_are_joined_cut_and_met(rt: HostRuntime) {
     // Two squares of 16 cells that have the 4 cells (2, 2), (3, 2), (2, 3) and (3, 3) in common.
     let some = Tile::rect(0, 0, 4, 4);
