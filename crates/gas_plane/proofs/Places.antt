@@ -71,3 +71,10 @@ pub inside_alike : (a b : Rectangle) (x y u v : ℕ) → (nat_le a.x x && nat_lt
 inside_alike a b x y u v columns rows =
     and_assoc (nat_le a.x x && nat_lt x (a.x + a.w)) (nat_le a.y y) (nat_lt y (a.y + a.h)) ∙ (λ i. columns i && rows i)
     ∙ sym (and_assoc (nat_le b.x u && nat_lt u (b.x + b.w)) (nat_le b.y v) (nat_lt v (b.y + b.h)))
+
+-- The cells of a tile that begins at (left, top) are in a part of it as they are in the rectangle, if the part's columns and rows are.
+pub part_alike : (part area : Rectangle) (left top : ℕ)
+    → ((k : ℕ) → k < 64 → (nat_le part.x k && nat_lt k (part.x + part.w)) ≡ (nat_le area.x (left + k) && nat_lt (left + k) (area.x + area.w)))
+    → ((k : ℕ) → k < 64 → (nat_le part.y k && nat_lt k (part.y + part.h)) ≡ (nat_le area.y (top + k) && nat_lt (top + k) (area.y + area.h)))
+    → (x y : ℕ) → x < 64 → y < 64 → is_inside part x y ≡ is_inside area (left + x) (top + y)
+part_alike part area left top columns rows x y h k = inside_alike part area x y (left + x) (top + y) (columns x h) (rows y k)

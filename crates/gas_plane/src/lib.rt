@@ -34,7 +34,7 @@ use marks::{Mark, are_all_bare, mark_of};
 pub use rows::word_of;
 use std::alloc::Global;
 use std::marker::Model;
-pub use tile_areas::{is_covered, part_of, tiles_met};
+pub use tile_areas::{is_apart, is_covered, part_of, set_part, tiles_met};
 
 /// A set of cells of a lattice, which is a torus. Contracts see its width, its height and its cells. Only `empty` and `copy`
 /// allocate.

@@ -1,8 +1,9 @@
 //! Which tiles a rectangle meets, and the part of it in each.
 
-ghost use Rattle.std.specs.Prelude.{◌≡◌, ◌↔◌, IsTrue, ℕ, ◌+◌, ◌*◌, ◌/◌, ◌<◌, ◌≤◌, ◌^◌, ◌&&◌, nat_le, nat_lt, false, MatchOption, true};
+ghost use Rattle.std.specs.Prelude.{◌≡◌, ◌↔◌, IsTrue, ℕ, ◌+◌, ◌*◌, ◌/◌, ◌%◌, ◌<◌, ◌≤◌, ◌^◌, ◌&&◌, ◌==◌, slice_index, if◌then◌else◌, nat_le, nat_lt, false, MatchOption, true};
 ghost use Rattle.gas_terms.specs.Cells.{is_inside};
-ghost use Rattle.bit_tile.specs.Tile.{HasCells};
+ghost use Rattle.bit_tile.specs.Tile as in_tile;
+ghost use Rattle.bit_tile.specs.Tile.{HasCells, count_cells, cell_changes};
 
 use bit_tile::Tile;
 use gas_terms::Rect;
@@ -35,6 +36,32 @@ pub fn part_of(area: Rect, left: u32, top: u32) -> Option<Tile>
         return None;
     }
     Some(Tile::rect(x, y, w, h))
+}
+
+/// Fills or empties the rectangle's cells among the 64 by 64 from the place (left, top) on, which are the tile's. Returns how many
+/// change in each class of columns and rows: even column and even row, odd and even, even and odd, odd and odd.
+pub fn set_part(tile: &mut Tile, area: Rect, left: u32, top: u32, held: bool) -> [u32; 4]
+    ensures cells { HasCells tile.new (λ x y.
+        if is_inside area (left + x) (top + y) then held else in_tile.has tile.old x y) }
+    ensures changed { (a b : ℕ) → a < 2 → b < 2 → slice_index result (2 * b + a) ≡
+        count_cells (λ x y. is_inside area (left + x) (top + y) &&
+        cell_changes held (in_tile.has tile.old x y) && x % 2 == a && y % 2 == b) }
+    ensures bound { (k : ℕ) → slice_index result k ≤ 2048 }
+{
+    let (x, w) = overlap(area.x() as u32, area.w() as u32, left);
+    let (y, h) = overlap(area.y() as u32, area.h() as u32, top);
+    tile.set_rect(x, y, w, h, held)
+}
+
+/// True only if the rectangle has none of the 64 by 64 cells from the place (left, top) on.
+#[inline]
+pub fn is_apart(area: Rect, left: u32, top: u32) -> bool
+    ensures { IsTrue result → (x y : ℕ) → x < 64 → y < 64 →
+        is_inside area (left + x) (top + y) ≡ false }
+{
+    let (_, w) = overlap(area.x() as u32, area.w() as u32, left);
+    let (_, h) = overlap(area.y() as u32, area.h() as u32, top);
+    h == 0 || w == 0
 }
 
 /// Whether the rectangle has all of the 64 by 64 cells from the place (left, top) on.

@@ -1,7 +1,7 @@
 //! Worked examples of the tiles that a rectangle meets, and of its part in each, with values found by hand.
 
 use crate::expected::{expect_same, expect_that};
-use gas_plane::{is_covered, part_of, tiles_met};
+use gas_plane::{Tile, is_apart, is_covered, part_of, set_part, tiles_met};
 use gas_terms::{Rect, Size};
 use std::process::Abort;
 
@@ -30,7 +30,21 @@ fn a_rectangle_has_a_part_in_each_tile(rt: HostRuntime) {
     expect_same(&rt, part(area, 64, 64), (u64::MAX, 64 * 64));
     expect_same(&rt, part(area, 128, 64), (3, 2 * 64));
     expect_same(&rt, part(area, 64, 0), (0, 0));
+    expect_that(&rt, is_apart(area, 64, 0) && !is_apart(area, 128, 64));
     expect_that(&rt, is_covered(area, 64, 64));
     expect_that(&rt, !is_covered(area, 0, 64));
     expect_that(&rt, !is_covered(area, 64, 0));
+}
+
+#[test]
+fn a_part_of_a_tile_is_filled_and_emptied(rt: HostRuntime) {
+    let size = Size::new(192, 128).expect(&rt, "a size");
+    let area = Rect::within(size, 60, 64, 70, 64).expect(&rt, "a rectangle");
+    // Columns 0 and 1 of the third tile, of which column 1 was filled.
+    let mut tile = Tile::rect(1, 0, 1, 64);
+    let filled = set_part(&mut tile, area, 128, 64, true);
+    expect_same(&rt, filled.as_slice(), [32, 0, 32, 0].as_slice());
+    let emptied = set_part(&mut tile, area, 128, 64, false);
+    expect_same(&rt, emptied.as_slice(), [32, 32, 32, 32].as_slice());
+    expect_that(&rt, tile.is_empty());
 }

@@ -2,6 +2,7 @@ pub mod Amounts
 pub mod FlowSums
 pub mod Rings
 pub mod Exchanging
+pub mod AreaCounts
 pub mod ActedTiles
 pub mod TileChanges
 pub mod ActionRuns

@@ -3,9 +3,8 @@ use Rattle.std.proofs.Common.{◌≡◌, ℕ, ◌+◌, ◌-◌, ◌*◌, ◌/◌
 use Rattle.bit_tile.specs.Tile as tile
 use Rattle.bit_tile.specs.Tile.{HasCells, count_cells}
 use Rattle.bit_tile.specs.declared.Tile.{Tile}
-use Rattle.bit_tile.proofs.Sums.{sum_below-same, count_below-same}
 use Rattle.bit_tile.proofs.Bits.{get_or-replicate_zero}
-use Rattle.bit_tile.proofs.Counts.{cells_counted-none, whole_class}
+use Rattle.bit_tile.proofs.Counts.{cells_counted-none, class_same, whole_class}
 use Rattle.gas_terms.specs.Cells.{Cells, Rectangle, has, without, tile_count}
 use Rattle.gas_terms.specs.Accounts.{total_in, parity_count}
 use Rattle.gas_terms.specs.Accounts as accounts
@@ -25,12 +24,9 @@ use Rattle.gas_plane.proofs.Counting.{counted_sums}
 use Rattle.phase_step.proofs.FlowSums.{same_moved}
 use Rattle.phase_step.proofs.ActedTiles.{acting, Stays, cell_within}
 
--- tiles that agree count alike
-pub count_same : (f g : ℕ → ℕ → Bool) (a b : ℕ) → ((x y : ℕ) → x < 64 → y < 64 → f x y ≡ g x y) → count_cells (λ x y. f x y && x % 2 == a && y % 2 == b) ≡ count_cells (λ x y. g x y && x % 2 == a && y % 2 == b)
-count_same f g a b same = grind (arith, sum_below-same, count_below-same)
-
+-- tests that agree count alike
 pub counts_as : (counts : List ℕ) (f g : ℕ → ℕ → Bool) → AreTileCounts counts f → ((x y : ℕ) → x < 64 → y < 64 → f x y ≡ g x y) → AreTileCounts counts g
-counts_as counts f g are same = record { count = λ a b p q. are.count a b p q ∙ count_same f g a b same; few = are.few }
+counts_as counts f g are same = record { count = λ a b p q. are.count a b p q ∙ class_same f g a b same; few = are.few }
 
 -- the counts of a tile's cells, as wider numbers
 pub widened_counts : (counts wide : List ℕ) (t : Tile) → ((i j : ℕ) → i < 2 → j < 2 → get_or counts (2 * j + i) 0 ≡ count_cells (λ x y. tile.has t x y && x % 2 == i && y % 2 == j)) → ((k : ℕ) → get_or counts k 0 ≤ 2048) → ((k : ℕ) → get_or wide k 0 ≡ get_or counts k 0) → AreTileCounts wide (tile.has t)
@@ -44,7 +40,7 @@ lacking_counts counts lacking t are same = record { count = λ a b p q. omega (a
 pub no_counts : (test : ℕ → ℕ → Bool) → ((x y : ℕ) → x < 64 → y < 64 → test x y ≡ false) → AreTileCounts (0 ∷ 0 ∷ 0 ∷ 0 ∷ []) test
 no_counts test none =
     record {
-      count = λ a b p q. get_or-replicate_zero 4 (2 * b + a) ∙ sym (count_same test (λ _ _. false) a b none ∙ cells_counted-none);
+      count = λ a b p q. get_or-replicate_zero 4 (2 * b + a) ∙ sym (class_same test (λ _ _. false) a b none ∙ cells_counted-none);
       few = λ k h. omega (arith, get_or-replicate_zero 4 k);
     }
 

@@ -1,4 +1,4 @@
-use Rattle.std.specs.Prelude.{◌≡◌, ℕ, ◌+◌, ◌*◌, ◌%◌, ◌<◌, ◌≤◌, ◌==◌, ◌&&◌, not, Bool, ℤ, List, slice_index, if◌then◌else◌}
+use Rattle.std.specs.Prelude.{◌≡◌, ℕ, ◌+◌, ◌*◌, ◌%◌, ◌<◌, ◌≤◌, ◌==◌, ◌&&◌, Bool, ℤ, List, slice_index}
 use Rattle.bit_tile.specs.Tile.{count_cells}
 use Rattle.gas_terms.specs.Counts.{sums_of_counts}
 use Rattle.gas_terms.specs.declared.accounts.Moved.{Moved}
@@ -13,7 +13,3 @@ pub record AreTileCounts (counts : List ℕ) (test : ℕ → ℕ → Bool) : Typ
 -- the sums of particles that come in and go out, by such counts
 abbrev pub moved_by_counts : ℤ → CellCounts → Moved
 moved_by_counts tick change = record { injected = sums_of_counts tick change.gained; drained = sums_of_counts tick change.lost }
-
--- a cell that was held, or not, changes when it is filled or emptied
-abbrev pub cell_changes : Bool → Bool → Bool
-cell_changes held was = if held then not was else was

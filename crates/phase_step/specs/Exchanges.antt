@@ -42,3 +42,7 @@ listed exchanges k = leaves_of (get_or exchanges k nowhere)
 -- The set has each tile in which a rectangle has a cell: a cell of the set stands for one of the first 64 by 64 tiles.
 abbrev pub HasTilesOf : Tile → List Rectangle → Type 0
 HasTilesOf tiles areas = (x y : ℕ) → x < most_side → y < most_side → is_in_any areas x y ≡ true → tile.has tiles (x / 64) (y / 64) ≡ true
+
+-- one set has all that the other has
+abbrev pub HasAllOf : Tile → Tile → Type 0
+HasAllOf some more = (x y : ℕ) → x < 64 → y < 64 → tile.has some x y ≡ true → tile.has more x y ≡ true

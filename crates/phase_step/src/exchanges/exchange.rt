@@ -6,7 +6,7 @@ ghost use Rattle.bit_tile.specs.Tile as in_tile;
 ghost use Rattle.gas_terms.specs.Cells.{most_side};
 ghost use Rattle.phase_step.specs.Actions.{KeepsTile, IsTileCorner, IsLeftOf};
 ghost use Rattle.phase_step.specs.Counts.{AreTileCounts};
-ghost use Rattle.phase_step.specs.Exchanges.{leaves_of, nowhere, HasTilesOf};
+ghost use Rattle.phase_step.specs.Exchanges.{leaves_of, nowhere, HasAllOf, HasTilesOf};
 
 use crate::exchanges::PortArray;
 use crate::exchanges::set_cells::set_areas;
@@ -111,21 +111,21 @@ fn tiles_met(drains: &[Rect], sources: &[Rect]) -> Tile
     ensures drains { HasTilesOf result drains.now }
     ensures sources { HasTilesOf result sources.now }
 {
-    let mut met = tiles_of(drains);
-    met.join(&tiles_of(sources));
+    let mut met = Tile::empty();
+    add_tiles(&mut met, drains);
+    add_tiles(&mut met, sources);
     met
 }
 
-fn tiles_of(areas: &[Rect]) -> Tile
-    ensures { HasTilesOf result areas.now }
+fn add_tiles(met: &mut Tile, areas: &[Rect])
+    ensures added { HasTilesOf met.new areas.now }
+    ensures kept { HasAllOf met.old met.new }
 {
-    let mut met = Tile::empty();
     for area in areas {
         let (x, w) = tiles_along(area.x(), area.w());
         let (y, h) = tiles_along(area.y(), area.h());
-        met.join(&Tile::rect(x, y, w, h));
+        met.set_rect(x, y, w, h, true);
     }
-    met
 }
 
 // Of the first 64 tiles along an axis, the first that has one of the `len` places from `start` on, and how many have.

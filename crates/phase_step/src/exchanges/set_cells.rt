@@ -1,12 +1,12 @@
 //! Fills or empties the cells that rectangles have of a tile, and counts those that change.
 
-ghost use Rattle.std.specs.Prelude.{◌≡◌, ℕ, ◌+◌, ◌-◌, ◌<◌, ◌&&◌, true, false, if◌then◌else◌, IsTrue, MatchOption, slice_index};
-ghost use Rattle.bit_tile.specs.Tile.{HasCells};
+ghost use Rattle.std.specs.Prelude.{◌≡◌, ℕ, ◌+◌, ◌-◌, ◌<◌, ◌&&◌, true, false, if◌then◌else◌, IsTrue, slice_index};
+ghost use Rattle.bit_tile.specs.Tile.{HasCells, cell_changes};
 ghost use Rattle.bit_tile.specs.Tile as in_tile;
-ghost use Rattle.phase_step.specs.Counts.{AreTileCounts, cell_changes};
+ghost use Rattle.phase_step.specs.Counts.{AreTileCounts};
 ghost use Rattle.phase_step.specs.Exchanges.{is_in_any, is_set};
 
-use gas_plane::{Tile, is_covered, part_of};
+use gas_plane::{Tile, add_counts, is_apart, is_covered, set_part};
 use gas_terms::Rect;
 
 // The four numbers.
@@ -84,50 +84,44 @@ fn one_covers(areas: &[Rect], left: u32, top: u32) -> bool
     false
 }
 
-// Whether no rectangle has a cell of the tile that begins at (left, top).
+// True only if no rectangle has a cell of the tile that begins at (left, top).
 fn are_apart(areas: &[Rect], left: u32, top: u32) -> bool
     ensures { IsTrue result → (x y : ℕ) → x < 64 → y < 64 →
         is_in_any areas.now (left + x) (top + y) ≡ false }
 {
     for area in areas {
-        if part_of(*area, left, top).is_some() {
+        if !is_apart(*area, left, top) {
             return false;
         }
     }
     true
 }
 
-// The cells that the rectangles have of the tile that begins at (left, top), if there are any.
-fn cells_of(areas: &[Rect], left: u32, top: u32) -> Option<Tile>
-    ensures { MatchOption result
-        ((x y : ℕ) → x < 64 → y < 64 → is_in_any areas.now (left + x) (top + y) ≡ false)
-        (λ cells. HasCells cells (λ x y. is_in_any areas.now (left + x) (top + y))) }
+// Fills or empties the cells that rectangles have of the tile, one rectangle after another. Returns how many change, by their
+// classes.
+fn set_each(tile: &mut Tile, areas: &[Rect], left: u32, top: u32, held: bool) -> [u64; 4]
+    ensures cells { HasCells tile.new (λ x y.
+        if is_in_any areas.now (left + x) (top + y) then held else in_tile.has tile.old x y) }
+    ensures count { AreTileCounts result (λ x y.
+        is_in_any areas.now (left + x) (top + y) && cell_changes held (in_tile.has tile.old x y)) }
 {
-    let mut cells: Option<Tile> = None;
+    let mut changed = [0; 4];
     for area in areas {
-        if let Some(part) = part_of(*area, left, top) {
-            match &mut cells {
-                Some(some) => some.join(&part),
-                None => cells = Some(part),
-            }
-        }
+        let here = set_part(tile, *area, left, top, held);
+        let sum = add_counts(changed, here);
+        changed = sum;
     }
-    cells
+    changed
 }
 
-// Those that no rectangle of `kept` has.
-fn cells_but(areas: &[Rect], kept: &[Rect], left: u32, top: u32) -> Option<Tile>
-    ensures { MatchOption result
-        ((x y : ℕ) → x < 64 → y < 64 → is_set areas.now kept.now (left + x) (top + y) ≡ false)
-        (λ cells. HasCells cells (λ x y. is_set areas.now kept.now (left + x) (top + y))) }
+// The cells that the rectangles have of the tile that begins at (left, top), but for those of other rectangles.
+fn cells_but(areas: &[Rect], kept: &[Rect], left: u32, top: u32) -> Tile
+    ensures { HasCells result (λ x y. is_set areas.now kept.now (left + x) (top + y)) }
 {
-    let Some(mut cells) = cells_of(areas, left, top) else {
-        return None;
-    };
-    if let Some(kept) = cells_of(kept, left, top) {
-        cells.cut(&kept);
-    }
-    Some(cells)
+    let mut cells = Tile::empty();
+    set_each(&mut cells, areas, left, top, true);
+    set_each(&mut cells, kept, left, top, false);
+    cells
 }
 
 /// Fills or empties the cells that the rectangles have of the tile that begins at (left, top), but keeps those of other rectangles.
@@ -152,8 +146,12 @@ pub fn set_areas(
     if one_covers(areas, left, top) && are_apart(kept, left, top) {
         return set_all(tile, held);
     }
-    match cells_but(areas, kept, left, top) {
-        Some(cells) => set_cells(tile, &cells, held),
-        None => [0; 4],
+    if are_apart(areas, left, top) {
+        return [0; 4];
     }
+    if are_apart(kept, left, top) {
+        return set_each(tile, areas, left, top, held);
+    }
+    let cells = cells_but(areas, kept, left, top);
+    set_cells(tile, &cells, held)
 }

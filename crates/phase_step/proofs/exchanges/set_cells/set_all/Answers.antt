@@ -1,6 +1,6 @@
 use Rattle.std.proofs.Common.{ap, sym}
 use Rattle.bit_tile.specs.Tile.{has}
-use Rattle.phase_step.specs.Counts.{cell_changes}
+use Rattle.bit_tile.specs.Tile.{cell_changes}
 use Rattle.phase_step.proofs.TileChanges.{counts_as, lacking_counts, widened_counts}
 use Rattle.phase_step.proofs.exchanges.set_cells.set_all.Goals as goal
 

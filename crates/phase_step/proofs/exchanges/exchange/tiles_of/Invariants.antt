@@ -1,7 +1,0 @@
-use Rattle.std.proofs.Common.{◌≡◌, ◌<◌, ◌/◌, ℕ, true, take}
-use Rattle.bit_tile.specs.Tile.{has}
-use Rattle.phase_step.specs.Exchanges.{is_in_any}
-use Rattle.phase_step.proofs.exchanges.exchange.tiles_of.Given as goal
-
-abbrev pub invariant-loop-area : goal.invariant-loop-area
-invariant-loop-area l = (x y : ℕ) → x < 4096 → y < 4096 → is_in_any (take l.area-index l.areas) x y ≡ true → has l.met (x / 64) (y / 64) ≡ true
