@@ -16,7 +16,7 @@ use Rattle.block_rule.specs.declared.blocks_in_tile.OddBlocks.{OddBlocks}
 use Rattle.block_rule.specs.TileBlocks.{NamesBlocks, AreGivenBlocks}
 use Rattle.block_rule.specs.declared.blocks_in_tile.SetBlocks.{SetBlocks}
 use Rattle.block_rule.proofs.Holding.{same_block, class_among}
-use Rattle.block_rule.specs.Rows.{AreMadeOdd, AreUpper, AreLower, ShowsInnerRows, odd_row, eight_row}
+use Rattle.block_rule.specs.Rows.{AreMadeOdd, AreUpper, AreLower, odd_row, eight_row}
 use Rattle.block_rule.specs.declared.blocks.Blocks.{Blocks}
 use Rattle.block_rule.specs.declared.blocks.EightRows.{EightRows}
 use Rattle.block_rule.proofs.Around.{turned_by_cells}
@@ -77,8 +77,8 @@ pub turned_of_rows : (window solid : ℕ → ℕ → Bool) (out : Tile) → HasC
 turned_of_rows window solid out is x y h k = is x y h k ∙ sym (turned_by_cells 1 window (is_walled_at 1 solid x y) x y)
 
 -- before the first
-pub none_made : (row_pairs : ℕ) (begins ends : ℕ → ℕ) (t left right out : Tile) → AreMadeUpTo 0 row_pairs begins ends t left right out
-none_made row_pairs begins ends t left right out window solid shown named tells j below inside = absurd (omega arith)
+pub none_made : (window solid : ℕ → ℕ → Bool) (out : Tile) → AreMadeUpTo 0 window solid out
+none_made window solid out j below inside = absurd (omega arith)
 
 -- rows of which a word tells that no block is walled
 collided_alike : (a b c d : ℕ) (window : ℕ → ℕ → Bool) (y : ℕ) (new : Blocks) → ((i : ℕ) → i < 32 → bit a i ≡ bit c i) → ((i : ℕ) → i < 32 → bit b i ≡ bit d i) → IsCollidedOdd a b window y new → IsCollidedOdd c d window y new
@@ -93,32 +93,32 @@ free_odd row_pairs j begins ends solid window new below none named tells =
     (λ i h. bit-zero i ∙ sym (end_at begins ends solid named i (j + 1) (2 * i + 0) (2 * j + 1) h (omega arith) (even_start i) (odd_start j ∙ omega arith) ∙ free (2 * i + 0) (omega arith)))
 
 -- eight rows more
-pub eight_made : (n from to row_pairs : ℕ) (begins ends : ℕ → ℕ) (t left right old new : Tile) (rows : EightRows) → from ≤ n → from ≤ 23 → to ≤ 32 → (to ≡ from + 8) ⊎ (from ≡ 23)
-    → ((window solid : ℕ → ℕ → Bool) → ShowsInnerRows window t left right → NameBlocks begins ends solid → TellsRows row_pairs (is_walled_at 1 solid) → (k : ℕ) → k < 8 → IsCollidedOdd (begins (from + k + 1)) (ends (from + k + 1)) window (2 * (from + k) + 2) (eight_row rows k))
+pub eight_made : (n from to : ℕ) (begins ends : ℕ → ℕ) (window solid : ℕ → ℕ → Bool) (old new : Tile) (rows : EightRows) → NameBlocks begins ends solid → from ≤ n → from ≤ 23 → to ≤ 32 → (to ≡ from + 8) ⊎ (from ≡ 23)
+    → ((k : ℕ) → k < 8 → IsCollidedOdd (begins (from + k + 1)) (ends (from + k + 1)) window (2 * (from + k) + 2) (eight_row rows k))
     → ((k : ℕ) → k < 8 → odd_row new (from + k) ≡ eight_row rows k)
     → ((j : ℕ) → (j < from) ⊎ (from + 8 ≤ j) → (get_or new.odd_odd j 0 ≡ get_or old.odd_odd j 0) × (get_or new.even_odd j 0 ≡ get_or old.even_odd j 0))
     → ((j : ℕ) → (j ≤ from) ⊎ (from + 8 < j) → (get_or new.odd_even j 0 ≡ get_or old.odd_even j 0) × (get_or new.even_even j 0 ≡ get_or old.even_even j 0))
-    → AreMadeUpTo n row_pairs begins ends t left right old → AreMadeUpTo to row_pairs begins ends t left right new
-eight_made n from to row_pairs begins ends t left right old new rows low few small reach made written upper_rest lower_rest before window solid shown named tells j below inside =
+    → AreMadeUpTo n window solid old → AreMadeUpTo to window solid new
+eight_made n from to begins ends window solid old new rows named low few small reach made written upper_rest lower_rest before j below inside =
     let rule = rule_among solid in
     let here : j < from + 8 = elim reach [ inl e ↦ omega arith | inr e ↦ omega arith ] in
     let row : (m : ℕ) → from ≤ m → m < from + 8 → AreMadeOdd rule window m (odd_row new m) =
     λ m h k.
     let at : from + (m - from) ≡ m = omega arith in
-    let is = named_row_made begins ends solid named window (from + (m - from)) (eight_row rows (m - from)) (omega arith) (made window solid shown named tells (m - from) (omega arith)) in
+    let is = named_row_made begins ends solid named window (from + (m - from)) (eight_row rows (m - from)) (omega arith) (made (m - from) (omega arith)) in
     subst (λ x. AreMadeOdd rule window x (odd_row new x)) at (subst (AreMadeOdd rule window (from + (m - from))) (sym (written (m - from) (omega arith))) is)
     in
     record {
-      upper = uppers_more rule window old new from (from + 8) (λ m h. (before window solid shown named tells m (omega arith) (omega arith)).upper) row upper_rest j here;
-      lower = lowers_more rule window old new from (from + 8) (λ m h. (before window solid shown named tells m (omega arith) (omega arith)).lower) row lower_rest j here;
+      upper = uppers_more rule window old new from (from + 8) (λ m h. (before m (omega arith) (omega arith)).upper) row upper_rest j here;
+      lower = lowers_more rule window old new from (from + 8) (λ m h. (before m (omega arith) (omega arith)).lower) row lower_rest j here;
     }
 
 -- a tile of whose rows all are made
-pub tile_made : (n row_pairs : ℕ) (begins ends : ℕ → ℕ) (t left right out : Tile) (ul ur ll lr : ℕ) (window solid : ℕ → ℕ → Bool) → 31 ≤ n → 31 < length out.odd_odd → 31 < length out.even_odd → AreMadeUpTo n row_pairs begins ends t left right out → ShowsInnerRows window t left right
-    → NameBlocks begins ends solid → TellsRows row_pairs (is_walled_at 1 solid) → get_or out.odd_even 0 0 ≡ ll → get_or out.even_even 0 0 ≡ lr
+pub tile_made : (n : ℕ) (begins ends : ℕ → ℕ) (out : Tile) (ul ur ll lr : ℕ) (window solid : ℕ → ℕ → Bool) → 31 ≤ n → 31 < length out.odd_odd → 31 < length out.even_odd → AreMadeUpTo n window solid out
+    → NameBlocks begins ends solid → get_or out.odd_even 0 0 ≡ ll → get_or out.even_even 0 0 ≡ lr
     → AreLower (λ i. turned_cell (bit (begins 0) i)) (λ i. turned_cell (bit (ends 0) i)) window 0 ll lr → AreUpper (λ i. turned_cell (bit (begins 32) i)) (λ i. turned_cell (bit (ends 32) i)) window 64 ul ur
     → HasCells (record { even_even = out.even_even; odd_even = out.odd_even; even_odd = set out.even_odd 31 ur; odd_odd = set out.odd_odd 31 ul }) (turned_window 1 window solid)
-tile_made n row_pairs begins ends t left right out ul ur ll lr window solid all odd_long even_long made shown named tells odd_top even_top at_top at_bottom =
+tile_made n begins ends out ul ur ll lr window solid all odd_long even_long made named odd_top even_top at_top at_bottom =
     let rule = rule_among solid in
     let top = lower_named begins ends solid named window 0 (2 * 0 + 0) 0 ll lr (omega arith) (even_start 0) at_top in
     let last : block_start 1 (2 * 31 + 1) ≡ 2 * 32 = odd_start 31 in
@@ -128,12 +128,12 @@ tile_made n row_pairs begins ends t left right out ul ur ll lr window solid all 
     (λ j h.
     elim (cases_eq j 31) [
       | inl e ↦ upper_end rule window out.odd_odd out.even_odd ul ur j e odd_long even_long bottom
-      | inr ne ↦ upper_inner _ _ window (2 * j + 2) out.odd_odd out.even_odd ul ur j ne (made window solid shown named tells j (omega arith) (omega arith)).upper
+      | inr ne ↦ upper_inner _ _ window (2 * j + 2) out.odd_odd out.even_odd ul ur j ne (made j (omega arith) (omega arith)).upper
     ])
     (λ j h.
     elim (cases_eq j 0) [
       | inl e ↦ rw (e, odd_top, even_top) top
-      | inr some ↦ lower_next rule window out _ _ j some refl refl (made window solid shown named tells (j - 1) (omega arith) (omega arith)).lower
+      | inr some ↦ lower_next rule window out _ _ j some refl refl (made (j - 1) (omega arith) (omega arith)).lower
     ]))
 
 -- what is given of the words of a set

@@ -3,8 +3,7 @@ use Rattle.bit_tile.specs.Bit.{bit}
 use Rattle.bit_tile.specs.declared.Tile.{Tile}
 use Rattle.block_rule.specs.Around.{is_block_walled, is_walled_at}
 use Rattle.block_rule.specs.Cell.{turned_cell}
-use Rattle.block_rule.specs.Shown.{TellsRows}
-use Rattle.block_rule.specs.Rows.{AreUpper, AreLower, IsMade, ShowsInnerRows, even_row}
+use Rattle.block_rule.specs.Rows.{AreUpper, AreLower, IsMade, even_row}
 use Rattle.block_rule.specs.declared.blocks.Blocks.{Blocks}
 use Rattle.block_rule.specs.declared.blocks_in_tile.OddBlocks.{OddBlocks}
 
@@ -33,14 +32,14 @@ pub record IsCollidedOdd (begin end : ℕ) (window : ℕ → ℕ → Bool) (y : 
 abbrev pub rule_among : (ℕ → ℕ → Bool) → ℕ → ℕ → Bool → Bool → Bool → Bool → Bool
 rule_among solid x y = turned_cell (is_walled_at 1 solid x y)
 
--- the words of the tile's rows 2 * j + 1 and 2 * j + 2 are made, of the rows before n
+-- The words of the tile's rows 2 * j + 1 and 2 * j + 2 are made: those of row j of the odd blocks inside it.
 pub record AreWordsMade (window solid : ℕ → ℕ → Bool) (out : Tile) (j : ℕ) : Type 0 where
   pub upper : AreUpper (λ i. rule_among solid (2 * i + 1) (2 * j + 1)) (λ i. rule_among solid (2 * i + 0) (2 * j + 1)) window (2 * j + 2) (slice_index out.odd_odd j) (slice_index out.even_odd j)
   pub lower : AreLower (λ i. rule_among solid (2 * i + 1) (2 * (j + 1) + 0)) (λ i. rule_among solid (2 * i + 0) (2 * (j + 1) + 0)) window (2 * j + 2) (slice_index out.odd_even (j + 1)) (slice_index out.even_even (j + 1))
 
-abbrev pub AreMadeUpTo : ℕ → ℕ → (ℕ → ℕ) → (ℕ → ℕ) → Tile → Tile → Tile → Tile → Type 0
-AreMadeUpTo n row_pairs begins ends t left right out =
-    (window solid : ℕ → ℕ → Bool) → ShowsInnerRows window t left right → NameBlocks begins ends solid → TellsRows row_pairs (is_walled_at 1 solid) → (j : ℕ) → j < n → j < 31 → AreWordsMade window solid out j
+-- and those of the rows of odd blocks before row n
+abbrev pub AreMadeUpTo : ℕ → (ℕ → ℕ → Bool) → (ℕ → ℕ → Bool) → Tile → Type 0
+AreMadeUpTo n window solid out = (j : ℕ) → j < n → j < 31 → AreWordsMade window solid out j
 
 -- The words name the blocks of even parity, or of odd, that are filled by the cells that pass the test. A block of odd parity is
 -- named by the tile's cell in it: row k of blocks is that of row 2 * k - 1, or of row 0.

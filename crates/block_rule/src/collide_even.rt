@@ -78,7 +78,8 @@ fn collide_eight<W: Walled>(walled: W, from: usize, tile: &mut Tile)
 #[inline(never)]
 pub fn collide_even<W: Walled>(walled: W, tile: &mut Tile)
     ensures { (window solid : ℕ → ℕ → Bool) → ShowsTile window tile.old →
-        NameEvenBlocks (W.evens walled) solid → TellsRows (W.row_pairs walled) (is_walled_at 0 solid) →
+        NameEvenBlocks (W.evens walled) solid →
+        TellsRows (W.row_pairs walled) (is_walled_at 0 solid) →
         HasCells tile.new (turned_window 0 window solid) }
 {
     collide_eight(walled, 0, tile);

@@ -82,11 +82,12 @@ fn collided_eight<W: Walled>(
 #[inline(always)]
 fn collide_eight<W: Walled>(walled: W, tile: &Tile, near: &Round, from: usize, out: &mut Tile)
     requires { from < 24 }
-    ensures made { (n to : ℕ) → from ≤ n → to ≤ 32 → (to ≡ from + 8) ⊎ (from ≡ 23) →
-        AreMadeUpTo n (W.row_pairs walled) (W.begins walled) (W.ends walled) tile.now
-        near.now.left.now near.now.right.now out.old →
-        AreMadeUpTo to (W.row_pairs walled) (W.begins walled) (W.ends walled) tile.now
-        near.now.left.now near.now.right.now out.new }
+    ensures made { (window solid : ℕ → ℕ → Bool) →
+        ShowsInnerRows window tile.now near.now.left.now near.now.right.now →
+        NameBlocks (W.begins walled) (W.ends walled) solid →
+        TellsRows (W.row_pairs walled) (is_walled_at 1 solid) →
+        (n to : ℕ) → from ≤ n → to ≤ 32 → (to ≡ from + 8) ⊎ (from ≡ 23) →
+        AreMadeUpTo n window solid out.old → AreMadeUpTo to window solid out.new }
     ensures top { (slice_index out.new.odd_even 0 ≡ slice_index out.old.odd_even 0) ×
         (slice_index out.new.even_even 0 ≡ slice_index out.old.even_even 0) }
 {

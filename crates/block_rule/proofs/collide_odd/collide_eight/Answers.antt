@@ -6,15 +6,14 @@ use Rattle.block_rule.proofs.collide_odd.collide_eight.Goals as goal
 use Rattle.block_rule.proofs.collide_odd.collide_eight.Goals.{then-bits_from-eq0, else-bits_from-eq0}
 
 pub returns-clause-made : goal.returns-clause-made
-returns-clause-made g c = λ n to low small reach before.
+returns-clause-made g c = λ window solid shown named tells n to low small reach before.
     let w = c.args.walled in
     let begins = g.W.Walled.begins w in
     let ends = g.W.Walled.ends w in
     let row_pairs = g.W.Walled.row_pairs w in
-    let near = c.args.near.now in
     let from = c.args.from in
-    eight_made n from to row_pairs begins ends c.args.tile.now near.left.now near.right.now c.args.out.now c.write_eight.new.out c.if-bits_from-eq0.rows low (omega arith) small reach
-    (λ window solid shown named tells k few.
+    eight_made n from to begins ends window solid c.args.out.now c.write_eight.new.out c.if-bits_from-eq0.rows named low (omega arith) small reach
+    (λ k few.
     elim c.if-bits_from-eq0.branch [
       | then-bits_from-eq0 v ↦
           rw v.rows-is
