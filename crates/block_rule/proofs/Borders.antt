@@ -5,6 +5,7 @@ use Rattle.bit_tile.specs.Tile.{has}
 use Rattle.bit_tile.specs.declared.Tile.{Tile}
 use Rattle.tile_border.specs.Ring.{IsBorderOf}
 use Rattle.tile_border.specs.declared.border.Border.{Border}
+use Rattle.tile_border.specs.declared.border.Neighbors.{Neighbors}
 use Rattle.block_rule.specs.Around.{around, is_outside}
 use Rattle.block_rule.specs.Rows.{ShowsTile, ShowsRound}
 
@@ -14,5 +15,5 @@ inside x h = grind (arith, ne_eqb)
 pub shows_tile : (t : Tile) (b : Border) → ShowsTile (around t b) t
 shows_tile t b x y h k = rw (inside x h, inside y k) (ap₂ (has t) (omega arith) (omega arith))
 
-pub shows_round : (t : Tile) (b : Border) (above below left right above_left above_right below_left below_right : Tile) → IsBorderOf b above below left right above_left above_right below_left below_right → ShowsRound (around t b) above below left right above_left above_right below_left below_right
-shows_round t b above below left right above_left above_right below_left below_right is = grind (arith, inside)
+pub shows_round : (t : Tile) (b : Border) (near : Neighbors) → IsBorderOf b near.above near.below near.left near.right near.above_left near.above_right near.below_left near.below_right → ShowsRound (around t b) near
+shows_round t b near is = grind (arith, inside)

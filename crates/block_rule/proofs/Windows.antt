@@ -6,6 +6,7 @@ use Rattle.bit_tile.specs.Tile.{HasCells}
 use Rattle.bit_tile.specs.declared.Tile.{Tile}
 use Rattle.bit_tile.proofs.Classes.{by_class, even_even_at, odd_even_at, even_odd_at, odd_odd_at}
 use Rattle.block_rule.specs.Cell.{made, partner}
+use Rattle.tile_border.specs.declared.border.Neighbors.{Neighbors}
 use Rattle.block_rule.specs.Rows.{ShowsTile, ShowsRound, IsMade, ShowsRows, AreMadeOdd, AreUpper, AreLower, even_row, odd_row, beside_left, beside_right, eight_row}
 use Rattle.block_rule.specs.declared.blocks.Blocks.{Blocks}
 use Rattle.block_rule.specs.declared.blocks.EightRows.{EightRows}
@@ -82,8 +83,8 @@ pub eight_more : (P : ℕ → Blocks → Type 0) (rows : EightRows) (new : Block
 eight_more P rows new k ul ur ll lr before here m below = grind (arith, cases_eq, get_or-set_same, get_or-set_other)
 
 -- the rows of odd blocks, in the window: between two rows of the tile, at its top and at its bottom
-module _ (window : ℕ → ℕ → Bool) (t : Tile) (shows : ShowsTile window t) (a d l r al ar dl dr : Tile) (round : ShowsRound window a d l r al ar dl dr) where
-  pub inner_shown : (j : ℕ) → j < 31 → ShowsRows window (2 * j + 2) (odd_row t j) (beside_left l j) (beside_right r j)
+module _ (window : ℕ → ℕ → Bool) (t : Tile) (shows : ShowsTile window t) (near : Neighbors) (round : ShowsRound window near) where
+  pub inner_shown : (j : ℕ) → j < 31 → ShowsRows window (2 * j + 2) (odd_row t j) (beside_left near.left j) (beside_right near.right j)
   inner_shown j h =
       let next : 2 * j + 2 + 1 ≡ 2 * (j + 1) + 1 = omega arith in
       let upper : 2 * j + 2 ≡ 2 * j + 1 + 1 = omega arith in
@@ -93,36 +94,36 @@ module _ (window : ℕ → ℕ → Bool) (t : Tile) (shows : ShowsTile window t)
         upper_right = λ i k. eo_shown window t shows i j k (omega arith);
         lower_left = λ i k. ap (window (2 * i + 2)) next ∙ oe_shown window t shows i (j + 1) k (omega arith);
         lower_right = λ i k. ap (window (2 * i + 1)) next ∙ ee_shown window t shows i (j + 1) k (omega arith);
-        left_upper = ap (window 0) upper ∙ (round.left (2 * j + 1) (omega arith) ∙ odd_odd_at l 31 j);
-        left_lower = ap (window 0) lower ∙ (round.left (2 * (j + 1)) (omega arith) ∙ odd_even_at l 31 (j + 1));
-        right_upper = ap (window 65) upper ∙ (round.right (2 * j + 1) (omega arith) ∙ even_odd_at r 0 j);
-        right_lower = ap (window 65) lower ∙ (round.right (2 * (j + 1)) (omega arith) ∙ even_even_at r 0 (j + 1));
+        left_upper = ap (window 0) upper ∙ (round.left (2 * j + 1) (omega arith) ∙ odd_odd_at near.left 31 j);
+        left_lower = ap (window 0) lower ∙ (round.left (2 * (j + 1)) (omega arith) ∙ odd_even_at near.left 31 (j + 1));
+        right_upper = ap (window 65) upper ∙ (round.right (2 * j + 1) (omega arith) ∙ even_odd_at near.right 0 j);
+        right_lower = ap (window 65) lower ∙ (round.right (2 * (j + 1)) (omega arith) ∙ even_even_at near.right 0 (j + 1));
       }
 
-  pub top_shown : ShowsRows window 0 (record { upper_left = get_or a.odd_odd 31 0; upper_right = get_or a.even_odd 31 0; lower_left = get_or t.odd_even 0 0; lower_right = get_or t.even_even 0 0 }) (record { upper = get_or al.odd_odd 31 0; lower = get_or l.odd_even 0 0 }) (record { upper = get_or ar.even_odd 31 0; lower = get_or r.even_even 0 0 })
+  pub top_shown : ShowsRows window 0 (record { upper_left = get_or near.above.odd_odd 31 0; upper_right = get_or near.above.even_odd 31 0; lower_left = get_or t.odd_even 0 0; lower_right = get_or t.even_even 0 0 }) (record { upper = get_or near.above_left.odd_odd 31 0; lower = get_or near.left.odd_even 0 0 }) (record { upper = get_or near.above_right.even_odd 31 0; lower = get_or near.right.even_even 0 0 })
   top_shown =
       record {
-        upper_left = λ i k. ap (λ u. window u 0) (omega arith) ∙ (round.above (2 * i + 1) (omega arith) ∙ odd_odd_at a i 31);
-        upper_right = λ i k. round.above (2 * i) (omega arith) ∙ even_odd_at a i 31;
+        upper_left = λ i k. ap (λ u. window u 0) (omega arith) ∙ (round.above (2 * i + 1) (omega arith) ∙ odd_odd_at near.above i 31);
+        upper_right = λ i k. round.above (2 * i) (omega arith) ∙ even_odd_at near.above i 31;
         lower_left = λ i k. oe_shown window t shows i 0 k (omega arith);
         lower_right = λ i k. ee_shown window t shows i 0 k (omega arith);
-        left_upper = round.above_left ∙ odd_odd_at al 31 31;
-        left_lower = round.left 0 (omega arith) ∙ odd_even_at l 31 0;
-        right_upper = round.above_right ∙ even_odd_at ar 0 31;
-        right_lower = round.right 0 (omega arith) ∙ even_even_at r 0 0;
+        left_upper = round.above_left ∙ odd_odd_at near.above_left 31 31;
+        left_lower = round.left 0 (omega arith) ∙ odd_even_at near.left 31 0;
+        right_upper = round.above_right ∙ even_odd_at near.above_right 0 31;
+        right_lower = round.right 0 (omega arith) ∙ even_even_at near.right 0 0;
       }
 
-  pub bottom_shown : ShowsRows window 64 (record { upper_left = get_or t.odd_odd 31 0; upper_right = get_or t.even_odd 31 0; lower_left = get_or d.odd_even 0 0; lower_right = get_or d.even_even 0 0 }) (record { upper = get_or l.odd_odd 31 0; lower = get_or dl.odd_even 0 0 }) (record { upper = get_or r.even_odd 31 0; lower = get_or dr.even_even 0 0 })
+  pub bottom_shown : ShowsRows window 64 (record { upper_left = get_or t.odd_odd 31 0; upper_right = get_or t.even_odd 31 0; lower_left = get_or near.below.odd_even 0 0; lower_right = get_or near.below.even_even 0 0 }) (record { upper = get_or near.left.odd_odd 31 0; lower = get_or near.below_left.odd_even 0 0 }) (record { upper = get_or near.right.even_odd 31 0; lower = get_or near.below_right.even_even 0 0 })
   bottom_shown =
       record {
         upper_left = λ i k. oo_shown window t shows i 31 k (omega arith);
         upper_right = λ i k. eo_shown window t shows i 31 k (omega arith);
-        lower_left = λ i k. ap (λ u. window u 65) (omega arith) ∙ (round.below (2 * i + 1) (omega arith) ∙ odd_even_at d i 0);
-        lower_right = λ i k. round.below (2 * i) (omega arith) ∙ even_even_at d i 0;
-        left_upper = round.left 63 (omega arith) ∙ odd_odd_at l 31 31;
-        left_lower = round.below_left ∙ odd_even_at dl 31 0;
-        right_upper = round.right 63 (omega arith) ∙ even_odd_at r 0 31;
-        right_lower = round.below_right ∙ even_even_at dr 0 0;
+        lower_left = λ i k. ap (λ u. window u 65) (omega arith) ∙ (round.below (2 * i + 1) (omega arith) ∙ odd_even_at near.below i 0);
+        lower_right = λ i k. round.below (2 * i) (omega arith) ∙ even_even_at near.below i 0;
+        left_upper = round.left 63 (omega arith) ∙ odd_odd_at near.left 31 31;
+        left_lower = round.below_left ∙ odd_even_at near.below_left 31 0;
+        right_upper = round.right 63 (omega arith) ∙ even_odd_at near.right 0 31;
+        right_lower = round.below_right ∙ even_even_at near.below_right 0 0;
       }
 
 -- the odd blocks' cells

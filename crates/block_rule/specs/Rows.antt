@@ -3,6 +3,7 @@ use Rattle.bit_tile.specs.Bit.{bit}
 use Rattle.bit_tile.specs.Tile.{has}
 use Rattle.bit_tile.specs.declared.Tile.{Tile}
 use Rattle.tile_border.specs.declared.Round.{Round}
+use Rattle.tile_border.specs.declared.border.Neighbors.{Neighbors}
 use Rattle.block_rule.specs.declared.blocks.Blocks.{Blocks}
 use Rattle.block_rule.specs.declared.blocks.Beside.{Beside}
 use Rattle.block_rule.specs.declared.blocks.EightRows.{EightRows}
@@ -12,19 +13,33 @@ use Rattle.block_rule.specs.declared.odd_rows.OddRow.{OddRow}
 abbrev pub ShowsTile : (ℕ → ℕ → Bool) → Tile → Type 0
 ShowsTile window t = (x y : ℕ) → x < 64 → y < 64 → window (x + 1) (y + 1) ≡ has t x y
 
--- and those of the eight tiles round it: above, below, left and right, then those at the upper and the lower corners
-pub record ShowsRound (window : ℕ → ℕ → Bool) (a d l r al ar dl dr : Tile) : Type 0 where
-  pub above : (x : ℕ) → x < 64 → window (x + 1) 0 ≡ has a x 63
-  pub below : (x : ℕ) → x < 64 → window (x + 1) 65 ≡ has d x 0
-  pub left : (y : ℕ) → y < 64 → window 0 (y + 1) ≡ has l 63 y
-  pub right : (y : ℕ) → y < 64 → window 65 (y + 1) ≡ has r 0 y
-  pub above_left : window 0 0 ≡ has al 63 63
-  pub above_right : window 65 0 ≡ has ar 0 63
-  pub below_left : window 0 65 ≡ has dl 63 0
-  pub below_right : window 65 65 ≡ has dr 0 0
+-- and those of the eight tiles round it
+pub record ShowsRound (window : ℕ → ℕ → Bool) (near : Neighbors) : Type 0 where
+  pub above : (x : ℕ) → x < 64 → window (x + 1) 0 ≡ has near.above x 63
+  pub below : (x : ℕ) → x < 64 → window (x + 1) 65 ≡ has near.below x 0
+  pub left : (y : ℕ) → y < 64 → window 0 (y + 1) ≡ has near.left 63 y
+  pub right : (y : ℕ) → y < 64 → window 65 (y + 1) ≡ has near.right 0 y
+  pub above_left : window 0 0 ≡ has near.above_left 63 63
+  pub above_right : window 65 0 ≡ has near.above_right 0 63
+  pub below_left : window 0 65 ≡ has near.below_left 63 0
+  pub below_right : window 65 65 ≡ has near.below_right 0 0
+
+-- the tiles that a round refers to
+abbrev pub near_tiles : Round → Neighbors
+near_tiles r =
+    record {
+      above = r.above.now;
+      below = r.below.now;
+      left = r.left.now;
+      right = r.right.now;
+      above_left = r.above_left.now;
+      above_right = r.above_right.now;
+      below_left = r.below_left.now;
+      below_right = r.below_right.now;
+    }
 
 abbrev pub ShowsAllRound : (ℕ → ℕ → Bool) → Round → Type 0
-ShowsAllRound window r = ShowsRound window r.above.now r.below.now r.left.now r.right.now r.above_left.now r.above_right.now r.below_left.now r.below_right.now
+ShowsAllRound window round = ShowsRound window (near_tiles round)
 
 -- what is made of a row of blocks: of each corner of block i by its own old cell, and those beside it, facing it and across
 pub record IsMade (cell : ℕ → Bool → Bool → Bool → Bool → Bool) (old new : Blocks) : Type 0 where

@@ -6,6 +6,7 @@ ghost use Rattle.bit_tile.specs.Tile.{HasCells};
 ghost use Rattle.bit_tile.specs.declared.Tile.{Tile as TileRows};
 ghost use Rattle.tile_border.specs.Ring.{IsBorderOf};
 ghost use Rattle.tile_border.specs.declared.border.Border.{Border as RingCells};
+ghost use Rattle.tile_border.specs.declared.border.Neighbors.{Neighbors as EightTiles};
 ghost use Rattle.gas_terms.specs.Velocity.{parity};
 ghost use Rattle.gas_terms.specs.Cells.{Cells, joined};
 ghost use Rattle.gas_terms.specs.Cells as plane;
@@ -28,11 +29,10 @@ pub fn tiles_see_the_torus()
 /// A tile with its border is a window on the tiles round it.
 pub fn borders_are_windows()
     ensures tile { (t : TileRows) (b : RingCells) → ShowsTile (around t b) t }
-    ensures round { (t above below left right : TileRows)
-        (above_left above_right below_left below_right : TileRows) (b : RingCells) →
-        IsBorderOf b above below left right above_left above_right below_left below_right →
-        ShowsRound (around t b) above below left right
-        above_left above_right below_left below_right }
+    ensures round { (t : TileRows) (near : EightTiles) (b : RingCells) →
+        IsBorderOf b near.above near.below near.left near.right
+        near.above_left near.above_right near.below_left near.below_right →
+        ShowsRound (around t b) near }
 {}
 
 /// The block rule on a tile is the step of the torus.

@@ -9,6 +9,7 @@ use Rattle.gas_plane.specs.Planes.{IsTileFrom, IsRingRound, IsBareRound, HasNone
 use Rattle.block_rule.specs.Around.{around, none}
 use Rattle.tile_border.specs.Ring.{IsBorderOfRound}
 use Rattle.block_rule.specs.Windows.{IsView, IsWindow}
+use Rattle.block_rule.specs.Rows.{near_tiles}
 use Rattle.block_rule.specs.Shown.{IsSeenIn}
 use Rattle.block_rule.specs.declared.Window.{Window}
 use Rattle.tile_border.specs.declared.Round.{Round}
@@ -43,7 +44,10 @@ pub window_view : (i : ℕ) (cells others : Cells) (w : Window) → cells.width 
 window_view i cells others w wide high right bottom from = grind (arith, window_is_view, around, tile_rectangle, tile_window)
 
 pub window_seen : (w : Window) → IsSeenIn w (around w.tile.now (border_near w.round).0)
-window_seen w = grind (arith, shows_tile, shows_round)
+window_seen w =
+    let t = w.tile.now in
+    let near = border_near w.round in
+    record { tile = shows_tile t near.0; round = shows_round t near.0 (near_tiles w.round) near.1 }
 
 pub bare_window : (i : ℕ) (cells others : Cells) → HasSidesOf cells others → (tile_rectangle others i).x + 64 ≤ others.width → (tile_rectangle others i).y + 64 ≤ others.height
     → HasNone cells → IsBareRound cells (tile_rectangle cells i).x (tile_rectangle cells i).y

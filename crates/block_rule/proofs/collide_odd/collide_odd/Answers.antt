@@ -1,4 +1,5 @@
 use Rattle.std.proofs.Common.{◌<◌, ◌∙◌, arith, inl, refl, length, get_or-set_same}
+use Rattle.block_rule.specs.Rows.{near_tiles}
 use Rattle.block_rule.proofs.NamedBlocks.{collided_by, none_made, tile_made}
 use Rattle.block_rule.proofs.Windows.{inner_shown}
 use Rattle.block_rule.proofs.collide_odd.collide_odd.Goals as goal
@@ -7,7 +8,7 @@ pub returns : goal.returns
 returns g c = λ window solid shows round named tells.
     let t = c.args.tile.now in
     let n = c.args.round.now in
-    let inner = inner_shown window t shows n.above.now n.below.now n.left.now n.right.now n.above_left.now n.above_right.now n.below_left.now n.below_right.now round in
+    let inner = inner_shown window t shows (near_tiles n) round in
     let top = collided_by _ _ _ _ window 0 c.collided_odd-top.result c.begin.ensures c.end.ensures (c.collided_odd-top.ensures window 0 (c.top_row.ensures window shows round)) in
     let bottom = collided_by _ _ _ _ window 64 c.collided_odd-bottom.result c.begin-2.ensures c.end-2.ensures (c.collided_odd-bottom.ensures window 64 (c.bottom_row.ensures window shows round)) in
     let odd_room : 0 < length c.args.out.now.odd_even = omega arith in
