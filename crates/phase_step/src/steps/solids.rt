@@ -19,8 +19,10 @@ pub struct Solids {
     of_obstacles: SetWords,
     of_all: SetWords,
     pub ghost sides: { HasSidesOf obstacles walls },
-    pub ghost obstructed: { AreBlocksOf obstacles of_obstacles.rows.items of_obstacles.blocks.items },
-    pub ghost walled: { AreBlocksOf (joined walls obstacles) of_all.rows.items of_all.blocks.items },
+    pub ghost obstructed: { AreBlocksOf obstacles of_obstacles.rows.items
+        of_obstacles.blocks.items },
+    pub ghost walled: { AreBlocksOf (joined walls obstacles) of_all.rows.items
+        of_all.blocks.items },
 }
 
 /// The walled blocks of one tile, and those of them that have an obstacle. `None` if there are none.
