@@ -18,6 +18,7 @@ use Rattle.block_rule.specs.declared.walled.Counted.{Counted}
 use Rattle.phase_step.specs.Runs.{parity_at}
 use Rattle.phase_step.specs.Actions.{Leaves, acted, after_with, flow_with}
 use Rattle.phase_step.specs.Balance.{flow_counted, left_of, missing, AreFew}
+use Rattle.phase_step.specs.WholeRuns.{Dynamics}
 use Rattle.phase_step.specs.declared.sums.flow.Flow.{Flow}
 use Rattle.phase_step.proofs.ActionRuns.{sides_with}
 use Rattle.phase_step.proofs.FlowSums.{pair_same, took_same, same_flow, IsFlowOf, counted_few}
@@ -129,7 +130,8 @@ few_in_run p w o leaves c n kept before after flow is lattice few of_before of_a
     let tiles : tile_count c ≤ 4096 = few_tiles c (tile_count c) lattice (omega arith) in
     let m = 16384 * tile_count c * n in
     let most = few_in_all (tile_count c) n tiles (omega arith) in
-    let all = subst (IsFlowOf m) (tiles_flow_all p w o leaves c n lattice.sized) (tiles_flow_few p w o leaves c 0 (tile_count c) n) in
+    let d : Dynamics = record { parity = p; walls = w; obstacles = o; leaves = leaves } in
+    let all = subst (IsFlowOf m) (tiles_flow_all d c n lattice.sized) (tiles_flow_few d c 0 (tile_count c) n) in
     let took = counted_few m kept _ all.took in
     let more : (t : Pair) → IsTakenOfAtMost m t → IsTakenOfAtMost (2 ^ 46) t = λ t few. record { x = omega (arith, most, few.x); y = omega (arith, most, few.y) } in
     subst (λ (f : Flow). AreFew before after f) (sym is)

@@ -54,7 +54,7 @@ module _ (part : Part) (counted : Counted) (d : Dynamics) (q k : ℕ) (lattice o
   tick_is : 1 - q ≡ parity_at d.parity (suc k)
   tick_is = let e = is.parity in let s = is.small in omega (arith, e, s)
 
-  own_is : here ≡ flow_counted counted (phase_flow d.parity d.walls d.obstacles d.leaves lattice (part.first * (lattice.width / 64)) (own_rows part old * (lattice.width / 64)) k)
+  own_is : here ≡ flow_counted counted (phase_flow d lattice (part.first * (lattice.width / 64)) (own_rows part old * (lattice.width / 64)) k)
   own_is =
       let there = after_with d.parity (joined d.walls d.obstacles) d.leaves lattice k in
       let left : ℕ → Cells = λ r. streamed r there (joined d.walls d.obstacles) in
@@ -69,11 +69,11 @@ module _ (part : Part) (counted : Counted) (d : Dynamics) (q k : ℕ) (lattice o
   run_next =
       record {
         is = subst (λ (there : Cells). IsPartOf part next there 64) next_is is.action;
-        flow = own_flow_next d.parity d.walls d.obstacles d.leaves lattice counted (part.first * (lattice.width / 64)) (own_rows part old * (lattice.width / 64)) k flow here is.so_far.flow own_is;
+        flow = own_flow_next d lattice counted (part.first * (lattice.width / 64)) (own_rows part old * (lattice.width / 64)) k flow here is.so_far.flow own_is;
       }
 
   pub run_fits : k ≤ 65536 → own_rows part old * (lattice.width / 64) ≤ 4096 → FlowsFit flow here
-  run_fits short few = own_flow_fits d.parity d.walls d.obstacles d.leaves lattice counted (part.first * (lattice.width / 64)) (own_rows part old * (lattice.width / 64)) k flow here is.so_far.flow own_is few short
+  run_fits short few = own_flow_fits d lattice counted (part.first * (lattice.width / 64)) (own_rows part old * (lattice.width / 64)) k flow here is.so_far.flow own_is few short
 
 -- no phase yet
 pub run_begins : (part : Part) (counted : Counted) (d : Dynamics) (old lattice : Cells) (p : ℕ) → IsPartOf part old lattice (64 - p)
@@ -120,8 +120,8 @@ whole_flow down n counted d cells new answer sized run =
     let count = ap (λ n. n * a) rows ∙ turned in
     run.flow
     ∙ ap (flow_counted counted)
-    (ap₂ (λ f m. tiles_flow d.parity d.walls d.obstacles d.leaves cells f m n) first count
-    ∙ tiles_flow_all d.parity d.walls d.obstacles d.leaves cells n sized)
+    (ap₂ (λ f m. tiles_flow d cells f m n) first count
+    ∙ tiles_flow_all d cells n sized)
 
 -- what an action on it moves
 pub whole_moves : (p : ℕ) (leaves : Leaves) (cells : Cells) → is_size (extent cells) ≡ true → own_moves (whole_part cells) p cells cells (acted leaves cells) ≡ moved_by (pos p) cells (acted leaves cells)
@@ -139,5 +139,5 @@ pub strip_is : (first down rows k : ℕ) (strip lattice : Cells) → is_size (ex
 strip_is first down rows k strip lattice sized full high_is wide_is strip_high some within row = grind (arith, wide)
 
 pub strip_flow : (first down rows n : ℕ) (counted : Counted) (d : Dynamics) (strip lattice new : Cells) (answer : Flow) → strip.height ≡ (rows + 2) * 64 → HasRun (part_run (record { first = first; down = down; margin = 1 }) counted d n) strip lattice new answer
-    → answer ≡ flow_counted counted (tiles_flow d.parity d.walls d.obstacles d.leaves lattice (first * (lattice.width / 64)) (rows * (lattice.width / 64)) n)
+    → answer ≡ flow_counted counted (tiles_flow d lattice (first * (lattice.width / 64)) (rows * (lattice.width / 64)) n)
 strip_flow first down rows n counted d strip lattice new answer high_is run = grind (arith, flow_counted, tiles_flow)

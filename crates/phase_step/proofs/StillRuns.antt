@@ -6,11 +6,11 @@ use Rattle.gas_terms.proofs.Steps.{full_streamed}
 use Rattle.gas_plane.specs.Planes.{IsLattice}
 use Rattle.block_rule.specs.declared.walled.Counted.{Counted}
 use Rattle.phase_step.specs.Runs.{parity_at, particles_after}
-use Rattle.phase_step.specs.Actions.{Leaves, IsStill, after_with, no_flow, flows}
+use Rattle.phase_step.specs.Actions.{IsStill, no_flow, flows}
 use Rattle.phase_step.specs.Balance.{flow_counted}
 use Rattle.phase_step.specs.TileRuns.{phase_flow, tiles_flow}
 use Rattle.phase_step.specs.SolidBlocks.{AreOfNone}
-use Rattle.phase_step.specs.WholeRuns.{HasRunWhole}
+use Rattle.phase_step.specs.WholeRuns.{Dynamics, HasRunWhole, after_all}
 use Rattle.phase_step.proofs.ActionParts.{still, still_after, after_same}
 use Rattle.phase_step.proofs.ActionRuns.{sides_with, sized_with}
 use Rattle.phase_step.proofs.Amounts.{sum_as, sum_none}
@@ -42,28 +42,28 @@ odd_first solid c (suc n) =
     let same : parity_at 0 n ≡ parity_at 1 (suc n) = omega arith in
     ap₂ (λ p (now : Cells). streamed p now solid) same (odd_first solid c n)
 
-module _ (p : ℕ) (w o : Cells) (leaves : ℕ → Leaves) (c : Cells) (of : IsLattice c) (acts_not : (k : ℕ) → IsStill (leaves k)) where
+module _ (d : Dynamics) (c : Cells) (of : IsLattice c) (acts_not : (k : ℕ) → IsStill (d.leaves k)) where
   abbrev now : ℕ → Cells
-  now k = after_with p (joined w o) leaves c k
+  now k = after_all d c k
 
   -- nothing is taken in some tiles, and nothing comes and goes
-  none_flows : (kept : Counted) (first n k : ℕ) → first + n ≤ tile_count c → HasSidesOf w c → HasSidesOf o c → AreOfNone kept w o → no_flow ≡ flow_counted kept (phase_flow p w o leaves c first n k)
+  none_flows : (kept : Counted) (first n k : ℕ) → first + n ≤ tile_count c → HasSidesOf d.walls c → HasSidesOf d.obstacles c → AreOfNone kept d.walls d.obstacles → no_flow ≡ flow_counted kept (phase_flow d c first n k)
   none_flows kept first n k within of_walls of_obstacles none =
-      let s = sides_with p (joined w o) leaves c k in
-      let come = streamed (parity_at p k) (now k) (joined w o) in
-      let sized = sized_with p (joined w o) leaves c k of.sized in
+      let s = sides_with d.parity (joined d.walls d.obstacles) d.leaves c k in
+      let come = streamed (parity_at d.parity k) (now k) (joined d.walls d.obstacles) in
+      let sized = sized_with d.parity (joined d.walls d.obstacles) d.leaves c k of.sized in
       same_flow _ _
-      (tiles_untaken (parity_at p k) (now k) w o kept first n (omega arith) sized (record { wide = of_walls.wide ∙ sym s.wide; high = of_walls.high ∙ sym s.high }) (record { wide = of_obstacles.wide ∙ sym s.wide; high = of_obstacles.high ∙ sym s.high }) none (let e = tiles_as (now k) c s in omega (arith, e, within)))
-      (still_moves_there (pos (parity_at p (suc k))) (leaves k) come first n (record { sized = sized; full = full_streamed (parity_at p k) (now k) (joined w o) }) (acts_not k) (let e = tiles_as (now k) c s in omega (arith, e, within)))
+      (tiles_untaken (parity_at d.parity k) (now k) d.walls d.obstacles kept first n (omega arith) sized (record { wide = of_walls.wide ∙ sym s.wide; high = of_walls.high ∙ sym s.high }) (record { wide = of_obstacles.wide ∙ sym s.wide; high = of_obstacles.high ∙ sym s.high }) none (let e = tiles_as (now k) c s in omega (arith, e, within)))
+      (still_moves_there (pos (parity_at d.parity (suc k))) (d.leaves k) come first n (record { sized = sized; full = full_streamed (parity_at d.parity k) (now k) (joined d.walls d.obstacles) }) (acts_not k) (let e = tiles_as (now k) c s in omega (arith, e, within)))
 
-  pub quiet_flow : (kept : Counted) (first n k : ℕ) → first + n ≤ tile_count c → HasSidesOf w c → HasSidesOf o c → AreOfNone kept w o → no_flow ≡ flow_counted kept (tiles_flow p w o leaves c first n k)
+  pub quiet_flow : (kept : Counted) (first n k : ℕ) → first + n ≤ tile_count c → HasSidesOf d.walls c → HasSidesOf d.obstacles c → AreOfNone kept d.walls d.obstacles → no_flow ≡ flow_counted kept (tiles_flow d c first n k)
   quiet_flow kept first n k within of_walls of_obstacles none =
-      sum_none flows flows_add (λ k. flow_counted kept (phase_flow p w o leaves c first n k)) k (λ k less. none_flows kept first n k within of_walls of_obstacles none)
-      ∙ sum_as flows flows (flow_counted kept) (same_flow _ _ (counted_none kept) refl) (flows_counted kept) (phase_flow p w o leaves c first n) k
+      sum_none flows flows_add (λ k. flow_counted kept (phase_flow d c first n k)) k (λ k less. none_flows kept first n k within of_walls of_obstacles none)
+      ∙ sum_as flows flows (flow_counted kept) (same_flow _ _ (counted_none kept) refl) (flows_counted kept) (phase_flow d c first n) k
 
-  pub still_run : (kept : Counted) (n : ℕ) (new : Cells) → HasSidesOf w c → HasSidesOf o c → AreOfNone kept w o → new ≡ particles_after p (joined w o) c n → HasRunWhole kept (record { parity = p; walls = w; obstacles = o; leaves = leaves }) n c new no_flow
+  pub still_run : (kept : Counted) (n : ℕ) (new : Cells) → HasSidesOf d.walls c → HasSidesOf d.obstacles c → AreOfNone kept d.walls d.obstacles → new ≡ particles_after d.parity (joined d.walls d.obstacles) c n → HasRunWhole kept d n c new no_flow
   still_run kept n new of_walls of_obstacles none is =
       record {
-        particles = is ∙ sym (after_same p (joined w o) leaves still c n (λ k h x y held. acts_not k x y held) ∙ still_after p (joined w o) c n);
-        flow = quiet_flow kept 0 (tile_count c) n (omega arith) of_walls of_obstacles none ∙ ap (flow_counted kept) (tiles_flow_all p w o leaves c n of.sized);
+        particles = is ∙ sym (after_same d.parity (joined d.walls d.obstacles) d.leaves still c n (λ k h x y held. acts_not k x y held) ∙ still_after d.parity (joined d.walls d.obstacles) c n);
+        flow = quiet_flow kept 0 (tile_count c) n (omega arith) of_walls of_obstacles none ∙ ap (flow_counted kept) (tiles_flow_all d c n of.sized);
       }

@@ -18,8 +18,9 @@ use Rattle.block_rule.specs.Windows.{taken_in}
 use Rattle.block_rule.specs.declared.walled.Counted.{Counted}
 use Rattle.phase_step.specs.Amounts.{sum_first}
 use Rattle.phase_step.specs.Runs.{parity_at, takings, tiles_take}
-use Rattle.phase_step.specs.Actions.{Leaves, acted, after_with, movements, phase_with, flow_with, flow_plus, flows, FlowsFit}
+use Rattle.phase_step.specs.Actions.{Leaves, acted, movements, phase_with, flow_plus, flows, FlowsFit}
 use Rattle.phase_step.specs.Balance.{flow_counted}
+use Rattle.phase_step.specs.WholeRuns.{Dynamics, after_all, flow_all}
 use Rattle.phase_step.specs.TileRuns.{tile_moves, tiles_move, phase_flow, tiles_flow}
 use Rattle.phase_step.specs.declared.sums.flow.Flow.{Flow}
 use Rattle.phase_step.proofs.ActionRuns.{sized_with, count_with}
@@ -132,56 +133,56 @@ few_in_all n k few short =
     let e : 16384 * n * k ≡ 16384 * (n * k) = omega arith in
     omega (arith, most, e)
 
-module _ (p : ℕ) (w o : Cells) (leaves : ℕ → Leaves) (c : Cells) where
-  phase_few : (first n k : ℕ) → IsFlowOf (16384 * n) (phase_flow p w o leaves c first n k)
+module _ (d : Dynamics) (c : Cells) where
+  phase_few : (first n k : ℕ) → IsFlowOf (16384 * n) (phase_flow d c first n k)
   phase_few first n k =
-      let now = after_with p (joined w o) leaves c k in
+      let now = after_all d c k in
       record {
-        took = tiles_take_few (parity_at p k) now w o first n;
-        moved = tiles_move_few (pos (parity_at p (suc k))) (leaves k) (streamed (parity_at p k) now (joined w o)) first n;
+        took = tiles_take_few (parity_at d.parity k) now d.walls d.obstacles first n;
+        moved = tiles_move_few (pos (parity_at d.parity (suc k))) (d.leaves k) (streamed (parity_at d.parity k) now (joined d.walls d.obstacles)) first n;
       }
 
-  pub tiles_flow_few : (first n k : ℕ) → IsFlowOf (16384 * n * k) (tiles_flow p w o leaves c first n k)
-  tiles_flow_few first n k = sum_few flows IsFlowOf (record { took = none_taken 0; moved = none_moved 0 }) flow_few (16384 * n) (phase_flow p w o leaves c first n) (phase_few first n) k
+  pub tiles_flow_few : (first n k : ℕ) → IsFlowOf (16384 * n * k) (tiles_flow d c first n k)
+  tiles_flow_few first n k = sum_few flows IsFlowOf (record { took = none_taken 0; moved = none_moved 0 }) flow_few (16384 * n) (phase_flow d c first n) (phase_few first n) k
 
   -- tiles one after another come to what they do together
-  pub tiles_flow_split : (first a b k : ℕ) → tiles_flow p w o leaves c first (a + b) k ≡ flow_plus (tiles_flow p w o leaves c first a k) (tiles_flow p w o leaves c (first + a) b k)
+  pub tiles_flow_split : (first a b k : ℕ) → tiles_flow d c first (a + b) k ≡ flow_plus (tiles_flow d c first a k) (tiles_flow d c (first + a) b k)
   tiles_flow_split first a b k =
-      sum_same flows (phase_flow p w o leaves c first (a + b)) (λ j. flow_plus (phase_flow p w o leaves c first a j) (phase_flow p w o leaves c (first + a) b j)) k
+      sum_same flows (phase_flow d c first (a + b)) (λ j. flow_plus (phase_flow d c first a j) (phase_flow d c (first + a) b j)) k
       (λ j less.
-      let now = after_with p (joined w o) leaves c j in
-      let come = streamed (parity_at p j) now (joined w o) in
+      let now = after_all d c j in
+      let come = streamed (parity_at d.parity j) now (joined d.walls d.obstacles) in
       same_flow _ _
-      (sum_split takings takings_add (λ i. taken_in (pos (parity_at p j)) now w o (tile_rectangle now i)) first a b)
-      (sum_split movements movements_add (tile_moves (pos (parity_at p (suc j))) come (acted (leaves j) come)) first a b))
-      ∙ sum_both flows flows_add (phase_flow p w o leaves c first a) (phase_flow p w o leaves c (first + a) b) k
+      (sum_split takings takings_add (λ i. taken_in (pos (parity_at d.parity j)) now d.walls d.obstacles (tile_rectangle now i)) first a b)
+      (sum_split movements movements_add (tile_moves (pos (parity_at d.parity (suc j))) come (acted (d.leaves j) come)) first a b))
+      ∙ sum_both flows flows_add (phase_flow d c first a) (phase_flow d c (first + a) b) k
 
   -- all tiles come to what the lattice does
-  pub tiles_flow_all : (k : ℕ) → is_size (extent c) ≡ true → tiles_flow p w o leaves c 0 (tile_count c) k ≡ flow_with p w o leaves c k
+  pub tiles_flow_all : (k : ℕ) → is_size (extent c) ≡ true → tiles_flow d c 0 (tile_count c) k ≡ flow_all d c k
   tiles_flow_all k sized =
-      sum_same flows (phase_flow p w o leaves c 0 (tile_count c)) (phase_with p w o leaves c) k
+      sum_same flows (phase_flow d c 0 (tile_count c)) (phase_with d.parity d.walls d.obstacles d.leaves c) k
       (λ j less.
-      let now = after_with p (joined w o) leaves c j in
-      let come = streamed (parity_at p j) now (joined w o) in
-      let tick = pos (parity_at p (suc j)) in
-      let size = sized_with p (joined w o) leaves c j sized in
-      let count = sym (count_with p (joined w o) leaves c j) in
+      let now = after_all d c j in
+      let come = streamed (parity_at d.parity j) now (joined d.walls d.obstacles) in
+      let tick = pos (parity_at d.parity (suc j)) in
+      let size = sized_with d.parity (joined d.walls d.obstacles) d.leaves c j sized in
+      let count = sym (count_with d.parity (joined d.walls d.obstacles) d.leaves c j) in
       same_flow _ _
-      (ap (tiles_take (parity_at p j) now w o 0) count ∙ all_take (parity_at p j) now w o (omega arith) size)
-      (ap (tiles_move tick come (acted (leaves j) come) 0) count ∙ moves_all tick (leaves j) come size))
+      (ap (tiles_take (parity_at d.parity j) now d.walls d.obstacles 0) count ∙ all_take (parity_at d.parity j) now d.walls d.obstacles (omega arith) size)
+      (ap (tiles_move tick come (acted (d.leaves j) come) 0) count ∙ moves_all tick (d.leaves j) come size))
 
   -- one phase more, in the accounts that are kept
-  pub own_flow_next : (kept : Counted) (first n k : ℕ) (flow here : Flow) → flow ≡ flow_counted kept (tiles_flow p w o leaves c first n k) → here ≡ flow_counted kept (phase_flow p w o leaves c first n k)
-      → flow_plus flow here ≡ flow_counted kept (tiles_flow p w o leaves c first n (k + 1))
+  pub own_flow_next : (kept : Counted) (first n k : ℕ) (flow here : Flow) → flow ≡ flow_counted kept (tiles_flow d c first n k) → here ≡ flow_counted kept (phase_flow d c first n k)
+      → flow_plus flow here ≡ flow_counted kept (tiles_flow d c first n (k + 1))
   own_flow_next kept first n k flow here so_far e =
       ap₂ flow_plus so_far e
-      ∙ (flows_counted kept (tiles_flow p w o leaves c first n k) (phase_flow p w o leaves c first n k)
-      ∙ ap (λ k. flow_counted kept (tiles_flow p w o leaves c first n k)) (sym (add-one k)))
+      ∙ (flows_counted kept (tiles_flow d c first n k) (phase_flow d c first n k)
+      ∙ ap (λ k. flow_counted kept (tiles_flow d c first n k)) (sym (add-one k)))
 
-  pub own_flow_fits : (kept : Counted) (first n k : ℕ) (flow here : Flow) → flow ≡ flow_counted kept (tiles_flow p w o leaves c first n k) → here ≡ flow_counted kept (phase_flow p w o leaves c first n k)
+  pub own_flow_fits : (kept : Counted) (first n k : ℕ) (flow here : Flow) → flow ≡ flow_counted kept (tiles_flow d c first n k) → here ≡ flow_counted kept (phase_flow d c first n k)
       → n ≤ 4096 → k ≤ 65536 → FlowsFit flow here
   own_flow_fits kept first n k flow here so_far e few short =
       let most = few_in_all n k few short in
       subst (λ (g : Flow). FlowsFit g here) (sym so_far)
-      (subst (FlowsFit (flow_counted kept (tiles_flow p w o leaves c first n k))) (sym e)
+      (subst (FlowsFit (flow_counted kept (tiles_flow d c first n k))) (sym e)
       (flows_fit (16384 * n * k) (16384 * n) kept _ _ (tiles_flow_few first n k) (phase_few first n k) (omega (arith, most, few))))

@@ -64,7 +64,7 @@ pub record AreOwn (part : Part) (cells : Cells) (own : OwnTiles) : Type 0 where
 -- what n phases come to in the part's own tiles
 abbrev pub own_flow : Part → Dynamics → Cells → Cells → ℕ → Flow
 own_flow part d cells lattice n =
-    let across = lattice.width / 64 in tiles_flow d.parity d.walls d.obstacles d.leaves lattice (part.first * across) (own_rows part cells * across) n
+    let across = lattice.width / 64 in tiles_flow d lattice (part.first * across) (own_rows part cells * across) n
 
 -- what is taken in them in a phase of parity p, and what a change at a tick of that parity moves in them
 abbrev pub own_take : Part → ℕ → Cells → Cells → Cells → Cells → Took

@@ -5,7 +5,8 @@ use Rattle.gas_terms.specs.Gas.{streamed}
 use Rattle.gas_terms.specs.Accounts.{total_in}
 use Rattle.phase_step.specs.Amounts.{sum_first}
 use Rattle.phase_step.specs.Runs.{parity_at, tiles_take}
-use Rattle.phase_step.specs.Actions.{Leaves, acted, after_with, movements, flows}
+use Rattle.phase_step.specs.Actions.{acted, movements, flows}
+use Rattle.phase_step.specs.WholeRuns.{Dynamics, after_all}
 use Rattle.gas_terms.specs.declared.accounts.Moved.{Moved}
 use Rattle.phase_step.specs.declared.sums.flow.Flow.{Flow}
 
@@ -19,17 +20,15 @@ abbrev pub tiles_move : ℤ → Cells → Cells → ℕ → ℕ → Moved
 tiles_move tick old new first n = sum_first movements (λ i. tile_moves tick old new (first + i)) n
 
 -- what phase k of a run and the action after it come to in those tiles
-abbrev pub phase_flow : ℕ → Cells → Cells → (ℕ → Leaves) → Cells → ℕ → ℕ → ℕ → Flow
-phase_flow p walls obstacles leaves particles first n k =
-    let solid = joined walls obstacles in
-    let now = after_with p solid leaves particles k in
-    let come = streamed (parity_at p k) now solid in
+abbrev pub phase_flow : Dynamics → Cells → ℕ → ℕ → ℕ → Flow
+phase_flow d lattice first n k =
+    let now = after_all d lattice k in
+    let come = streamed (parity_at d.parity k) now (joined d.walls d.obstacles) in
     record {
-      took = tiles_take (parity_at p k) now walls obstacles first n;
-      moved = tiles_move (pos (parity_at p (suc k))) come (acted (leaves k) come) first n;
+      took = tiles_take (parity_at d.parity k) now d.walls d.obstacles first n;
+      moved = tiles_move (pos (parity_at d.parity (suc k))) come (acted (d.leaves k) come) first n;
     }
 
 -- and so many phases
-abbrev pub tiles_flow : ℕ → Cells → Cells → (ℕ → Leaves) → Cells → ℕ → ℕ → ℕ → Flow
-tiles_flow p walls obstacles leaves particles first n k =
-    sum_first flows (phase_flow p walls obstacles leaves particles first n) k
+abbrev pub tiles_flow : Dynamics → Cells → ℕ → ℕ → ℕ → Flow
+tiles_flow d lattice first n k = sum_first flows (phase_flow d lattice first n) k

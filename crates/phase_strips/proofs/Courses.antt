@@ -65,10 +65,10 @@ module _ (course : Course) (k : ℕ) (turn : Dynamics) (is : IsPhase course k tu
   -- what it comes to in so many rows of tiles
   abbrev phase_gives : ℕ → ℕ → Flow
   phase_gives first rows =
-      let a = (lattice_at course k).width / 64 in flow_counted course.counted (tiles_flow turn.parity turn.walls turn.obstacles turn.leaves (lattice_at course k) (first * a) (rows * a) 1)
+      let a = (lattice_at course k).width / 64 in flow_counted course.counted (tiles_flow turn (lattice_at course k) (first * a) (rows * a) 1)
 
   gives : (first rows : ℕ) → let d = course.dynamics in let a = course.start.width / 64 in
-      phase_gives first rows ≡ flow_counted course.counted (phase_flow d.parity d.walls d.obstacles d.leaves course.start (first * a) (rows * a) k)
+      phase_gives first rows ≡ flow_counted course.counted (phase_flow d course.start (first * a) (rows * a) k)
   gives first rows =
       let d = course.dynamics in
       let now = lattice_at course k in
@@ -79,8 +79,8 @@ module _ (course : Course) (k : ℕ) (turn : Dynamics) (is : IsPhase course k tu
       let flow : ℕ → ℕ → Cells → ℕ → Flow = λ q t (left : Cells) a.
       record { took = tiles_take q now d.walls d.obstacles (first * a) (rows * a); moved = tiles_move (pos t) (come q) left (first * a) (rows * a) } in
       ap (flow_counted course.counted)
-      (flows_add.left (phase_flow turn.parity turn.walls turn.obstacles turn.leaves now (first * (now.width / 64)) (rows * (now.width / 64)) 0)
-      ∙ (ap₂ (λ (w o : Cells). phase_flow turn.parity w o turn.leaves now (first * (now.width / 64)) (rows * (now.width / 64)) 0) is.walls is.obstacles
+      (flows_add.left (phase_flow turn now (first * (now.width / 64)) (rows * (now.width / 64)) 0)
+      ∙ (ap₂ (λ (w o : Cells). phase_flow (record { parity = turn.parity; walls = w; obstacles = o; leaves = turn.leaves }) now (first * (now.width / 64)) (rows * (now.width / 64)) 0) is.walls is.obstacles
       ∙ (ap₂ (λ q t. flow q t (acted (turn.leaves 0) (come q)) (now.width / 64)) here next
       ∙ ap₂ (λ (left : Cells) w. flow (parity_at d.parity k) (parity_at d.parity (suc k)) left (w / 64)) (acted_same (turn.leaves 0) (d.leaves k) (come (parity_at d.parity k)) is.same) (course_sides course k).wide)))
 
@@ -88,13 +88,13 @@ module _ (course : Course) (k : ℕ) (turn : Dynamics) (is : IsPhase course k tu
   rows_next first rows here e =
       let d = course.dynamics in
       let a = course.start.width / 64 in
-      own_flow_next d.parity d.walls d.obstacles d.leaves course.start course.counted (first * a) (rows * a) k (rows_give course k first rows) here refl (e ∙ gives first rows)
+      own_flow_next d course.start course.counted (first * a) (rows * a) k (rows_give course k first rows) here refl (e ∙ gives first rows)
 
   pub rows_next_fit : (first rows : ℕ) (here : Flow) → here ≡ phase_gives first rows → rows * (course.start.width / 64) ≤ 4096 → k ≤ 65536 → FlowsFit (rows_give course k first rows) here
   rows_next_fit first rows here e few short =
       let d = course.dynamics in
       let a = course.start.width / 64 in
-      own_flow_fits d.parity d.walls d.obstacles d.leaves course.start course.counted (first * a) (rows * a) k (rows_give course k first rows) here refl (e ∙ gives first rows) few short
+      own_flow_fits d course.start course.counted (first * a) (rows * a) k (rows_give course k first rows) here refl (e ∙ gives first rows) few short
 
 -- A quiet run: two phases in one sweep, and what the rows of a strip come to.
 module _ (course : Course) (quiet : IsQuiet course) where
@@ -120,4 +120,4 @@ module _ (course : Course) (quiet : IsQuiet course) where
       let a = course.start.width / 64 in
       let all : (first + rows) * a ≤ course.start.height / 64 * a = mul-le-mul inside (let same : a ≤ a = omega arith in same) in
       let turn : course.start.height / 64 * a ≡ a * (course.start.height / 64) = omega arith in
-      sym (quiet_flow d.parity d.walls d.obstacles d.leaves course.start is quiet.still course.counted (first * a) (rows * a) k (omega (arith, all, turn)) of_walls of_obstacles quiet.untaken)
+      sym (quiet_flow d course.start is quiet.still course.counted (first * a) (rows * a) k (omega (arith, all, turn)) of_walls of_obstacles quiet.untaken)

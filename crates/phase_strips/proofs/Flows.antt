@@ -18,21 +18,21 @@ module _ (course : Course) (k : ℕ) where
       let d = course.dynamics in
       let a = course.start.width / 64 in
       same_flow no_flow (flow_counted course.counted no_flow) (counted_none course.counted) refl
-      ∙ (ap (flow_counted course.counted) (sum_none flows flows_add (phase_flow d.parity d.walls d.obstacles d.leaves course.start 0 0) k (λ i less. refl))
-      ∙ ap₂ (λ f n. flow_counted course.counted (tiles_flow d.parity d.walls d.obstacles d.leaves course.start f n k)) (let e : 0 ≡ 0 * a = omega arith in e) (let e : 0 ≡ 0 * a = omega arith in e))
+      ∙ (ap (flow_counted course.counted) (sum_none flows flows_add (phase_flow d course.start 0 0) k (λ i less. refl))
+      ∙ ap₂ (λ f n. flow_counted course.counted (tiles_flow d course.start f n k)) (let e : 0 ≡ 0 * a = omega arith in e) (let e : 0 ≡ 0 * a = omega arith in e))
 
   -- so many rows, and so many more
   pub more_rows_give : (m n : ℕ) → flow_plus (rows_give course k 0 m) (rows_give course k m n) ≡ rows_give course k 0 (m + n)
   more_rows_give m n =
       let d = course.dynamics in
       let a = course.start.width / 64 in
-      let of : ℕ → ℕ → Flow = λ f j. tiles_flow d.parity d.walls d.obstacles d.leaves course.start f j k in
+      let of : ℕ → ℕ → Flow = λ f j. tiles_flow d course.start f j k in
       let zero_is : 0 * a ≡ 0 = omega arith in
       let begins : m * a ≡ 0 + m * a = omega arith in
       let both : m * a + n * a ≡ (m + n) * a = omega arith in
       ap₂ (λ f g. flow_plus (flow_counted course.counted (of f (m * a))) (flow_counted course.counted (of g (n * a)))) zero_is begins
       ∙ (flows_counted course.counted (of 0 (m * a)) (of (0 + m * a) (n * a))
-      ∙ (sym (ap (flow_counted course.counted) (tiles_flow_split d.parity d.walls d.obstacles d.leaves course.start 0 (m * a) (n * a) k))
+      ∙ (sym (ap (flow_counted course.counted) (tiles_flow_split d course.start 0 (m * a) (n * a) k))
       ∙ ap₂ (λ f j. flow_counted course.counted (of f j)) (sym zero_is) both))
 
   -- all rows
@@ -42,8 +42,8 @@ module _ (course : Course) (k : ℕ) where
       let a = course.start.width / 64 in
       let zero_is : 0 * a ≡ 0 = omega arith in
       let all : course.start.height / 64 * a ≡ tile_count course.start = omega arith in
-      ap₂ (λ f j. flow_counted course.counted (tiles_flow d.parity d.walls d.obstacles d.leaves course.start f j k)) zero_is all
-      ∙ ap (flow_counted course.counted) (tiles_flow_all d.parity d.walls d.obstacles d.leaves course.start k sized)
+      ap₂ (λ f j. flow_counted course.counted (tiles_flow d course.start f j k)) zero_is all
+      ∙ ap (flow_counted course.counted) (tiles_flow_all d course.start k sized)
 
   -- what comes of some rows and of some others can be added up
   pub rows_fit : (first m next n : ℕ) → is_size (extent course.start) ≡ true → k ≤ 65535 → m ≤ 64 → n ≤ 64
@@ -55,6 +55,6 @@ module _ (course : Course) (k : ℕ) where
       let p = few_in_all (m * a) k (mul-le m a 64 64 few across) (omega (arith, short)) in
       let q = few_in_all (n * a) k (mul-le n a 64 64 more across) (omega (arith, short)) in
       flows_fit (16384 * (m * a) * k) (16384 * (n * a) * k) course.counted _ _
-      (tiles_flow_few d.parity d.walls d.obstacles d.leaves course.start (first * a) (m * a) k)
-      (tiles_flow_few d.parity d.walls d.obstacles d.leaves course.start (next * a) (n * a) k)
+      (tiles_flow_few d course.start (first * a) (m * a) k)
+      (tiles_flow_few d course.start (next * a) (n * a) k)
       (omega (arith, p, q))

@@ -33,7 +33,7 @@ abbrev pub rows_give : Course → ℕ → ℕ → ℕ → Flow
 rows_give course k first rows =
     let d = course.dynamics in
     let across = course.start.width / 64 in
-    flow_counted course.counted (tiles_flow d.parity d.walls d.obstacles d.leaves course.start (first * across) (rows * across) k)
+    flow_counted course.counted (tiles_flow d course.start (first * across) (rows * across) k)
 
 -- A run can be made of these particles by the strips of a lattice of this size.
 pub record CanGoOn (whole : Extent) (d : Dynamics) (particles : Cells) : Type 0 where

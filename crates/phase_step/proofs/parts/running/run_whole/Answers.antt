@@ -25,7 +25,7 @@ pub returns-then-not-is_counted : goal.returns-then-not-is_counted
 returns-then-not-is_counted g c =
     let run = c.args.run in
     let s = run.solids.now in
-    still_run run.parity s.walls s.obstacles (g.A.Action.leaves run.action.now) c.args.particles.now c.shows_lattice.ensures (λ k. c.acts.ensures c.if-not-acts.true k) c.args.counted run.n c.turn_on.new.particles c.requires.walls c.requires.obstacles (c.is_counted.ensures c.if-not-is_counted.true)
+    still_run (dynamics run.parity s (g.A.Action.leaves run.action.now)) c.args.particles.now c.shows_lattice.ensures (λ k. c.acts.ensures c.if-not-acts.true k) c.args.counted run.n c.turn_on.new.particles c.requires.walls c.requires.obstacles (c.is_counted.ensures c.if-not-is_counted.true)
     (subst (λ (solid : Cells). c.turn_on.new.particles ≡ particles_after run.parity solid c.args.particles.now run.n) c.of.ensures c.turn_on.ensures)
 
 pub returns : goal.returns

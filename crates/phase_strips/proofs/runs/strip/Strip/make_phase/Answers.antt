@@ -101,7 +101,7 @@ returns-clause-flow g c =
     subst (λ (part : Part). HasRun (part_run part i.counted (turn g at) 1) s.cells (before g at) c.run_part.new.particles c.run_part.result) c.part_of-part.ensures (c.run_part.ensures.run (before g at) (of_walls g at) (is_part g at)) in
     let own = s.own in
     let gives = strip_flow own.first down own.rows 1 i.counted (turn g at) s.cells (before g at) c.run_part.new.particles c.run_part.result c.requires.at.of_lattice.high run in
-    let kept = gives ∙ ap (λ (kept : Counted). flow_counted kept (tiles_flow (turn g at).parity (turn g at).walls (turn g at).obstacles (turn g at).leaves (before g at) (own.first * ((before g at).width / 64)) (own.rows * ((before g at).width / 64)) 1)) (sym i.counted_is) in
+    let kept = gives ∙ ap (λ (kept : Counted). flow_counted kept (tiles_flow (turn g at) (before g at) (own.first * ((before g at).width / 64)) (own.rows * ((before g at).width / 64)) 1)) (sym i.counted_is) in
     let start = subst IsLattice (sym i.start) i.lattice in
     let inside = c.requires.at.of_lattice.inside.inside in
     let few : own.rows * (course.start.width / 64) ≤ 4096 = mul-le own.rows (course.start.width / 64) 64 64 (let tall = (high (extent course.start) start.sized).few in omega (arith, inside, tall)) (wide (extent course.start) start.sized).few in
