@@ -15,5 +15,5 @@ inside x h = grind (arith, ne_eqb)
 pub shows_tile : (t : Tile) (b : Border) → ShowsTile (around t b) t
 shows_tile t b x y h k = rw (inside x h, inside y k) (ap₂ (has t) (omega arith) (omega arith))
 
-pub shows_round : (t : Tile) (b : Border) (near : Neighbors) → IsBorderOf b near.above near.below near.left near.right near.above_left near.above_right near.below_left near.below_right → ShowsRound (around t b) near
+pub shows_round : (t : Tile) (b : Border) (near : Neighbors) → IsBorderOf b near → ShowsRound (around t b) near
 shows_round t b near is = grind (arith, inside)

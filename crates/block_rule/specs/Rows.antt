@@ -2,6 +2,7 @@ use Rattle.std.specs.Prelude.{◌≡◌, ℕ, ◌+◌, ◌*◌, ◌<◌, Bool, s
 use Rattle.bit_tile.specs.Bit.{bit}
 use Rattle.bit_tile.specs.Tile.{has}
 use Rattle.bit_tile.specs.declared.Tile.{Tile}
+use Rattle.tile_border.specs.Ring.{near_tiles}
 use Rattle.tile_border.specs.declared.Round.{Round}
 use Rattle.tile_border.specs.declared.border.Neighbors.{Neighbors}
 use Rattle.block_rule.specs.declared.blocks.Blocks.{Blocks}
@@ -23,20 +24,6 @@ pub record ShowsRound (window : ℕ → ℕ → Bool) (near : Neighbors) : Type 
   pub above_right : window 65 0 ≡ has near.above_right 0 63
   pub below_left : window 0 65 ≡ has near.below_left 63 0
   pub below_right : window 65 65 ≡ has near.below_right 0 0
-
--- the tiles that a round refers to
-abbrev pub near_tiles : Round → Neighbors
-near_tiles r =
-    record {
-      above = r.above.now;
-      below = r.below.now;
-      left = r.left.now;
-      right = r.right.now;
-      above_left = r.above_left.now;
-      above_right = r.above_right.now;
-      below_left = r.below_left.now;
-      below_right = r.below_right.now;
-    }
 
 abbrev pub ShowsAllRound : (ℕ → ℕ → Bool) → Round → Type 0
 ShowsAllRound window round = ShowsRound window (near_tiles round)

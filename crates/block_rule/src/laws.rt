@@ -30,9 +30,7 @@ pub fn tiles_see_the_torus()
 pub fn borders_are_windows()
     ensures tile { (t : TileRows) (b : RingCells) → ShowsTile (around t b) t }
     ensures round { (t : TileRows) (near : EightTiles) (b : RingCells) →
-        IsBorderOf b near.above near.below near.left near.right
-        near.above_left near.above_right near.below_left near.below_right →
-        ShowsRound (around t b) near }
+        IsBorderOf b near → ShowsRound (around t b) near }
 {}
 
 /// The block rule on a tile is the step of the torus.

@@ -39,9 +39,7 @@ pub fn turn_block(cells: [bool; 4], walled: bool) -> [bool; 4]
 fn window_of<'a>(tile: &'a Tile, near: &'a Neighbors) -> Window<'a>
     ensures tile { result.tile.now ≡ tile.now }
     ensures seen { (b : BorderValue) →
-        IsBorderOf b near.now.above near.now.below near.now.left near.now.right
-        near.now.above_left near.now.above_right near.now.below_left near.now.below_right →
-        IsSeenIn result (around tile.now b) }
+        IsBorderOf b near.now → IsSeenIn result (around tile.now b) }
 {
     let round = near.round();
     Window { tile, round }

@@ -6,6 +6,7 @@ use Rattle.bit_tile.specs.Tile as tile
 use Rattle.bit_tile.specs.declared.Tile.{Tile}
 use Rattle.tile_border.specs.Ring.{ring, IsBorderOf}
 use Rattle.tile_border.specs.declared.border.Border.{Border}
+use Rattle.tile_border.specs.declared.border.Neighbors.{Neighbors}
 use Rattle.tile_border.specs.declared.Round.{Round}
 use Rattle.gas_terms.specs.Cells.{Cells, extent, has, tile_count}
 use Rattle.gas_plane.specs.Tiles.{IsColumnOf}
@@ -65,42 +66,43 @@ module _ (b : Border) (cells : Cells) (k : ℕ) (p : TilePlaces) (is : IsLattice
   after_y : (p.row * 64 + 65 + cells.height - 1) % cells.height ≡ p.below * 64 + 0
   after_y = ring_after cells.height p.row down places.rows.0 ∙ ap (λ k. k * 64 + 0) (sym places.below)
 
-  ring_here : (above below left right above_left above_right below_left below_right : Tile)
-      → IsTileFrom above cells (p.column * 64) (p.above * 64) → IsTileFrom below cells (p.column * 64) (p.below * 64)
-      → IsTileFrom left cells (p.left * 64) (p.row * 64) → IsTileFrom right cells (p.right * 64) (p.row * 64)
-      → IsTileFrom above_left cells (p.left * 64) (p.above * 64) → IsTileFrom above_right cells (p.right * 64) (p.above * 64)
-      → IsTileFrom below_left cells (p.left * 64) (p.below * 64) → IsTileFrom below_right cells (p.right * 64) (p.below * 64)
-      → IsBorderOf b above below left right above_left above_right below_left below_right → IsRingRound b cells (p.column * 64) (p.row * 64)
-  ring_here above below left right above_left above_right below_left below_right is_above is_below is_left is_right is_above_left is_above_right is_below_left is_below_right border =
+  ring_here : (near : Neighbors)
+      → IsTileFrom near.above cells (p.column * 64) (p.above * 64) → IsTileFrom near.below cells (p.column * 64) (p.below * 64)
+      → IsTileFrom near.left cells (p.left * 64) (p.row * 64) → IsTileFrom near.right cells (p.right * 64) (p.row * 64)
+      → IsTileFrom near.above_left cells (p.left * 64) (p.above * 64) → IsTileFrom near.above_right cells (p.right * 64) (p.above * 64)
+      → IsTileFrom near.below_left cells (p.left * 64) (p.below * 64) → IsTileFrom near.below_right cells (p.right * 64) (p.below * 64)
+      → IsBorderOf b near → IsRingRound b cells (p.column * 64) (p.row * 64)
+  ring_here near is_above is_below is_left is_right is_above_left is_above_right is_below_left is_below_right border =
       record {
         cell = λ i j (low, deep, edge).
             elim (ring_cases i low) [
               | inl i0 ↦ elim (ring_cases j deep) [
-                | inl j0 ↦ rw (i0, j0) (at 0 0 p.left p.above 63 63 above_left is_above_left (omega arith) (omega arith) border.above_left before_x before_y)
-                | inr (inl j65) ↦ rw (i0, j65) (at 0 65 p.left p.below 63 0 below_left is_below_left (omega arith) (omega arith) border.below_left before_x after_y)
-                | inr (inr (y, h, e)) ↦ rw (i0, e) (at 0 (y + 1) p.left p.row 63 y left is_left (omega arith) h (border.left y h) before_x (in_y y h))
+                | inl j0 ↦ rw (i0, j0) (at 0 0 p.left p.above 63 63 near.above_left is_above_left (omega arith) (omega arith) border.above_left before_x before_y)
+                | inr (inl j65) ↦ rw (i0, j65) (at 0 65 p.left p.below 63 0 near.below_left is_below_left (omega arith) (omega arith) border.below_left before_x after_y)
+                | inr (inr (y, h, e)) ↦ rw (i0, e) (at 0 (y + 1) p.left p.row 63 y near.left is_left (omega arith) h (border.left y h) before_x (in_y y h))
               ]
               | inr (inl i65) ↦ elim (ring_cases j deep) [
-                | inl j0 ↦ rw (i65, j0) (at 65 0 p.right p.above 0 63 above_right is_above_right (omega arith) (omega arith) border.above_right after_x before_y)
-                | inr (inl j65) ↦ rw (i65, j65) (at 65 65 p.right p.below 0 0 below_right is_below_right (omega arith) (omega arith) border.below_right after_x after_y)
-                | inr (inr (y, h, e)) ↦ rw (i65, e) (at 65 (y + 1) p.right p.row 0 y right is_right (omega arith) h (border.right y h) after_x (in_y y h))
+                | inl j0 ↦ rw (i65, j0) (at 65 0 p.right p.above 0 63 near.above_right is_above_right (omega arith) (omega arith) border.above_right after_x before_y)
+                | inr (inl j65) ↦ rw (i65, j65) (at 65 65 p.right p.below 0 0 near.below_right is_below_right (omega arith) (omega arith) border.below_right after_x after_y)
+                | inr (inr (y, h, e)) ↦ rw (i65, e) (at 65 (y + 1) p.right p.row 0 y near.right is_right (omega arith) h (border.right y h) after_x (in_y y h))
               ]
               | inr (inr (x, h, ex)) ↦ elim (ring_cases j deep) [
-                | inl j0 ↦ rw (ex, j0) (at (x + 1) 0 p.column p.above x 63 above is_above h (omega arith) (border.above x h) (in_x x h) before_y)
-                | inr (inl j65) ↦ rw (ex, j65) (at (x + 1) 65 p.column p.below x 0 below is_below h (omega arith) (border.below x h) (in_x x h) after_y)
+                | inl j0 ↦ rw (ex, j0) (at (x + 1) 0 p.column p.above x 63 near.above is_above h (omega arith) (border.above x h) (in_x x h) before_y)
+                | inr (inl j65) ↦ rw (ex, j65) (at (x + 1) 65 p.column p.below x 0 near.below is_below h (omega arith) (border.below x h) (in_x x h) after_y)
                 | inr (inr (y, in_column, e)) ↦ absurd (omega arith)
               ]
             ];
       }
 
-  pub ring_of : (above below left right above_left above_right below_left below_right : Tile)
-      → IsTileFrom above cells (p.column * 64) (p.above * 64) → IsTileFrom below cells (p.column * 64) (p.below * 64)
-      → IsTileFrom left cells (p.left * 64) (p.row * 64) → IsTileFrom right cells (p.right * 64) (p.row * 64)
-      → IsTileFrom above_left cells (p.left * 64) (p.above * 64) → IsTileFrom above_right cells (p.right * 64) (p.above * 64)
-      → IsTileFrom below_left cells (p.left * 64) (p.below * 64) → IsTileFrom below_right cells (p.right * 64) (p.below * 64)
-      → IsBorderOf b above below left right above_left above_right below_left below_right
+  pub ring_of : (near : Neighbors)
+      → IsTileFrom near.above cells (p.column * 64) (p.above * 64) → IsTileFrom near.below cells (p.column * 64) (p.below * 64)
+      → IsTileFrom near.left cells (p.left * 64) (p.row * 64) → IsTileFrom near.right cells (p.right * 64) (p.row * 64)
+      → IsTileFrom near.above_left cells (p.left * 64) (p.above * 64) → IsTileFrom near.above_right cells (p.right * 64) (p.above * 64)
+      → IsTileFrom near.below_left cells (p.left * 64) (p.below * 64) → IsTileFrom near.below_right cells (p.right * 64) (p.below * 64)
+      → IsBorderOf b near
       → IsRingRound b cells (k % (cells.width / 64) * 64) (k / (cells.width / 64) * 64)
-  ring_of above below left right above_left above_right below_left below_right is_above is_below is_left is_right is_above_left is_above_right is_below_left is_below_right border = grind (arith, ring_here, above, below, left, right)
+  ring_of near is_above is_below is_left is_right is_above_left is_above_right is_below_left is_below_right border =
+      rw (← places.column, ← places.row) (ring_here near is_above is_below is_left is_right is_above_left is_above_right is_below_left is_below_right border)
 
 place_before : (k n : ℕ) → (k + n - 1) % n ≡ place_by k 0 n
 place_before k n = ap (λ m. m % n) (omega arith)

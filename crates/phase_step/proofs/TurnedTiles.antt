@@ -7,9 +7,8 @@ use Rattle.tile_border.specs.declared.border.Border.{Border}
 use Rattle.gas_terms.specs.Cells.{Cells, HasSidesOf, tile_rectangle}
 use Rattle.gas_plane.specs.Planes.{IsTileFrom, IsRingRound, IsBareRound, HasNone}
 use Rattle.block_rule.specs.Around.{around, none}
-use Rattle.tile_border.specs.Ring.{IsBorderOfRound}
+use Rattle.tile_border.specs.Ring.{IsBorderOfRound, near_tiles}
 use Rattle.block_rule.specs.Windows.{IsView, IsWindow}
-use Rattle.block_rule.specs.Rows.{near_tiles}
 use Rattle.block_rule.specs.Shown.{IsSeenIn}
 use Rattle.block_rule.specs.declared.Window.{Window}
 use Rattle.tile_border.specs.declared.Round.{Round}
@@ -36,7 +35,7 @@ any_border = record { above = 0; below = 0; sides = [] }
 
 -- the border of the tiles that stand round a tile
 abbrev pub border_near : (r : Round) → (b : Border) × IsBorderOfRound b r
-border_near r = border_of_tiles r.above.now r.below.now r.left.now r.right.now r.above_left.now r.above_right.now r.below_left.now r.below_right.now
+border_near r = border_of_tiles (near_tiles r)
 
 -- a window of a set, and its view of the torus
 pub window_view : (i : ℕ) (cells others : Cells) (w : Window) → cells.width ≡ others.width → cells.height ≡ others.height → (tile_rectangle others i).x + 64 ≤ others.width → (tile_rectangle others i).y + 64 ≤ others.height

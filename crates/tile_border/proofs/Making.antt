@@ -8,9 +8,9 @@ use Rattle.std.proofs.lemmas.Nat.Bits.{bit_at_cat_low, bit_at_cat_high}
 use Rattle.std.proofs.lemmas.List.FromFn.{get_or-map-range_with_len}
 use Rattle.bit_tile.specs.Bit.{bit}
 use Rattle.bit_tile.specs.Tile.{has}
-use Rattle.bit_tile.specs.declared.Tile.{Tile}
 use Rattle.tile_border.specs.Ring.{ring, IsBorderOf}
 use Rattle.tile_border.specs.declared.border.Border.{Border}
+use Rattle.tile_border.specs.declared.border.Neighbors.{Neighbors}
 
 -- the word whose bits below n are as the test says
 word_where : (ℕ → Bool) → ℕ → ℕ
@@ -45,12 +45,12 @@ word_bit test (suc n) i h =
       | inr other ↦ ap (λ m. m == 1) (bit_at_cat_low digit n (word_where test n) i (omega arith)) ∙ word_bit test n i (omega arith)
     ]
 
-module _ (a d l r al ar dl dr : Tile) where
+module _ (near : Neighbors) where
   first_of : ℕ → Bool
-  first_of j = if j == 0 then has al 63 63 else (if j == 65 then has dl 63 0 else has l 63 (j - 1))
+  first_of j = if j == 0 then has near.above_left 63 63 else (if j == 65 then has near.below_left 63 0 else has near.left 63 (j - 1))
 
   last_of : ℕ → Bool
-  last_of j = if j == 0 then has ar 0 63 else (if j == 65 then has dr 0 0 else has r 0 (j - 1))
+  last_of j = if j == 0 then has near.above_right 0 63 else (if j == 65 then has near.below_right 0 0 else has near.right 0 (j - 1))
 
   side_of : ℕ → ℕ
   side_of j = word_where (λ i. if i == 0 then first_of j else last_of j) 64
@@ -58,8 +58,8 @@ module _ (a d l r al ar dl dr : Tile) where
   made : Border
   made =
       record {
-        above = word_where (λ x. has a x 63) 64;
-        below = word_where (λ x. has d x 0) 64;
+        above = word_where (λ x. has near.above x 63) 64;
+        below = word_where (λ x. has near.below x 0) 64;
         sides = map side_of (range_with_len 0 66);
       }
 
@@ -82,15 +82,15 @@ module _ (a d l r al ar dl dr : Tile) where
       let back : y + 1 - 1 ≡ y = omega arith in
       rw (not_first, not_last, back) refl
 
-  pub border_of_tiles : (b : Border) × IsBorderOf b a d l r al ar dl dr
+  pub border_of_tiles : (b : Border) × IsBorderOf b near
   unfolding made first_of last_of
   border_of_tiles = (
     made,
     record {
-      above = λ x h. inner (λ x. bit made.above x) (ring made 0 0) (ring made 65 0) x h ∙ word_bit (λ x. has a x 63) 64 x h;
-      below = λ x h. inner (λ x. bit made.below x) (ring made 0 65) (ring made 65 65) x h ∙ word_bit (λ x. has d x 0) 64 x h;
-      left = λ y h. first_at (y + 1) (omega arith) ∙ inner (has l 63) (has al 63 63) (has dl 63 0) y h;
-      right = λ y h. last_at (y + 1) (omega arith) ∙ inner (has r 0) (has ar 0 63) (has dr 0 0) y h;
+      above = λ x h. inner (λ x. bit made.above x) (ring made 0 0) (ring made 65 0) x h ∙ word_bit (λ x. has near.above x 63) 64 x h;
+      below = λ x h. inner (λ x. bit made.below x) (ring made 0 65) (ring made 65 65) x h ∙ word_bit (λ x. has near.below x 0) 64 x h;
+      left = λ y h. first_at (y + 1) (omega arith) ∙ inner (has near.left 63) (has near.above_left 63 63) (has near.below_left 63 0) y h;
+      right = λ y h. last_at (y + 1) (omega arith) ∙ inner (has near.right 0) (has near.above_right 0 63) (has near.below_right 0 0) y h;
       above_left = first_at 0 (omega arith);
       above_right = last_at 0 (omega arith);
       below_left = first_at 65 (omega arith);

@@ -39,14 +39,16 @@ impl Border {
         below_left: &Tile,
         below_right: &Tile,
     ) -> Border
-        ensures above { (x : ℕ) → x < 64 → ring result (x + 1) 0 ≡ has above.now x 63 }
-        ensures below { (x : ℕ) → x < 64 → ring result (x + 1) 65 ≡ has below.now x 0 }
-        ensures left { (y : ℕ) → y < 64 → ring result 0 (y + 1) ≡ has left.now 63 y }
-        ensures right { (y : ℕ) → y < 64 → ring result 65 (y + 1) ≡ has right.now 0 y }
-        ensures above_left { ring result 0 0 ≡ has above_left.now 63 63 }
-        ensures above_right { ring result 65 0 ≡ has above_right.now 0 63 }
-        ensures below_left { ring result 0 65 ≡ has below_left.now 63 0 }
-        ensures below_right { ring result 65 65 ≡ has below_right.now 0 0 }
+        ensures { IsBorderOf result (record {
+          above = above.now;
+          below = below.now;
+          left = left.now;
+          right = right.now;
+          above_left = above_left.now;
+          above_right = above_right.now;
+          below_left = below_left.now;
+          below_right = below_right.now;
+        }) }
     {
         let mut border = Border::EMPTY;
         border.surround(&Round {
@@ -80,8 +82,7 @@ impl Border {
 
     /// Eight neighbors that give this border. They have its cells and no others.
     pub fn neighbors(&self) -> Neighbors
-        ensures { IsBorderOf self.now result.above result.below result.left result.right
-            result.above_left result.above_right result.below_left result.below_right }
+        ensures { IsBorderOf self.now result }
     {
         let mut above = Tile::empty();
         above.set_row(63, self.above);
@@ -155,16 +156,11 @@ pub struct Neighbors {
 }
 
 impl Neighbors {
+    ghost use Rattle.tile_border.specs.Ring.{near_tiles};
+
     /// References to the eight tiles.
     pub fn round(&self) -> Round<'_>
-        ensures above { result.above.now ≡ self.now.above }
-        ensures below { result.below.now ≡ self.now.below }
-        ensures left { result.left.now ≡ self.now.left }
-        ensures right { result.right.now ≡ self.now.right }
-        ensures above_left { result.above_left.now ≡ self.now.above_left }
-        ensures above_right { result.above_right.now ≡ self.now.above_right }
-        ensures below_left { result.below_left.now ≡ self.now.below_left }
-        ensures below_right { result.below_right.now ≡ self.now.below_right }
+        ensures { near_tiles result ≡ self.now }
     {
         Round {
             above: &self.above,

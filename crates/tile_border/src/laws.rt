@@ -1,11 +1,10 @@
 //! A law of borders. A law is a function with an empty body; its contract is the law.
 
-ghost use Rattle.bit_tile.specs.declared.Tile.{Tile as TileRows};
 ghost use Rattle.tile_border.specs.Ring.{IsBorderOf};
 ghost use Rattle.tile_border.specs.declared.border.Border.{Border as RingCells};
+ghost use Rattle.tile_border.specs.declared.border.Neighbors.{Neighbors as EightTiles};
 
 /// Any eight tiles have a border.
 pub fn tiles_have_a_border()
-    ensures { (a d l r al ar dl dr : TileRows) →
-        (b : RingCells) × IsBorderOf b a d l r al ar dl dr }
+    ensures { (near : EightTiles) → (b : RingCells) × IsBorderOf b near }
 {}

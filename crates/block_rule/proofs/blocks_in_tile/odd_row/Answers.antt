@@ -1,5 +1,6 @@
 use Rattle.std.proofs.Common.{◌≡◌, ◌+◌, ◌-◌, ◌*◌, subst, arith}
-use Rattle.block_rule.specs.Rows.{ShowsOddRow, near_tiles}
+use Rattle.tile_border.specs.Ring.{near_tiles}
+use Rattle.block_rule.specs.Rows.{ShowsOddRow}
 use Rattle.block_rule.proofs.Windows.{inner_shown}
 use Rattle.block_rule.proofs.blocks_in_tile.odd_row.Goals as goal
 

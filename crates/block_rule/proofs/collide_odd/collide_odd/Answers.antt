@@ -1,5 +1,5 @@
 use Rattle.std.proofs.Common.{◌<◌, ◌∙◌, arith, inl, refl, length, get_or-set_same}
-use Rattle.block_rule.specs.Rows.{near_tiles}
+use Rattle.tile_border.specs.Ring.{near_tiles}
 use Rattle.block_rule.proofs.NamedBlocks.{collided_by, none_made, tile_made}
 use Rattle.block_rule.proofs.Windows.{inner_shown}
 use Rattle.block_rule.proofs.collide_odd.collide_odd.Goals as goal

@@ -1,4 +1,4 @@
-use Rattle.block_rule.specs.Rows.{near_tiles}
+use Rattle.tile_border.specs.Ring.{near_tiles}
 use Rattle.block_rule.proofs.Windows.{bottom_shown}
 use Rattle.block_rule.proofs.odd_rows.bottom_row.Goals as goal
 

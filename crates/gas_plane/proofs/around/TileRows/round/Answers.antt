@@ -23,6 +23,6 @@ returns-clause-ring c = λ cells i b is.
     let above = is.rows.above in
     let here = is.rows.here in
     let below = is.rows.below in
-    ring_of b cells i _ is.lattice are _ _ _ _ _ _ _ _
+    ring_of b cells i _ is.lattice are _
     (above.tile _ _ columns.0) (below.tile _ _ columns.0) (here.tile _ _ columns.1) (here.tile _ _ columns.2)
     (above.tile _ _ columns.1) (above.tile _ _ columns.2) (below.tile _ _ columns.1) (below.tile _ _ columns.2)
