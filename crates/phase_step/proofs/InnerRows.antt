@@ -8,7 +8,7 @@ use Rattle.gas_plane.proofs.Places.{IsWholeTiles, wide, high, cell_below}
 use Rattle.block_rule.specs.InPlace.{TurnsInto, IsCarried}
 use Rattle.block_rule.specs.TileBlocks.{AreGivenBlocks, walled_by}
 use Rattle.block_rule.specs.declared.in_place.Carry.{Carry}
-use Rattle.phase_step.specs.OddPhase.{IsInnerTurned, IsFirstPut, IsEdge, IsRowThere, HasInner, after_tiles, AreInnersTurned, IsInnerRowTurned}
+use Rattle.phase_step.specs.OddPhase.{inner_place, IsInnerShown, IsInnerTurned, IsFirstPut, IsEdge, IsRowThere, HasInner, after_tiles, AreInnersTurned, IsInnerRowTurned}
 use Rattle.phase_step.specs.declared.odd_phase.RowPlace.{RowPlace}
 use Rattle.phase_step.specs.declared.odd_phase.RowTurner.{RowTurner}
 use Rattle.phase_step.proofs.RowWindows.{carried_alike, next_cells, window, walls_there, rule, across, some_columns, turned_there, seen_there, column_in, around_column, around_row, around_before, after_inside, after_last, inside_in, around_after, edge}
@@ -68,6 +68,9 @@ module _ (place : RowPlace) (column : ℕ) (solid old lattice : Cells) (is : IsR
     pub own_inner : (x y : ℕ) → x < 64 → 1 ≤ y → y < 63 → shown (x + 1) (y + 1) ≡ has now (column * 64 + x) (place.row * 64 + y)
     own_inner x y h k l = seen_own x y h k l ∙ sym (still (column * 64 + x) y (omega arith) (column_in place column solid old lattice is less x h) k l)
 
+    inner_shown : IsInnerShown (inner_place place.row column beside) now shown
+    inner_shown = record { tile = own_inner; right = seen_edge }
+
     pub is_edge : (first : Tile) → ((y : ℕ) → 1 ≤ y → y < 63 → tile.has first 0 y ≡ has old 0 (place.row * 64 + y)) → IsEdge place.row column first now beside
     is_edge first are =
         record {
@@ -87,7 +90,7 @@ module _ (place : RowPlace) (column : ℕ) (solid old lattice : Cells) (is : IsR
         (λ y k l. ap (λ b. if column == 0 then false else b) (sym (turned_there place column solid old lattice is less 0 y _ _ (omega arith) (omega (arith, l)) (around_before place column solid old lattice is less) (around_row place column solid old lattice is less y (omega (arith, l)))))) so_far.carried
 
     -- one more tile has turned
-    pub inner_next : (before after : RowTurner) (new : Cells) → before.carry ≡ carry → IsInnerTurned place.row column beside before after now new
+    pub inner_next : (before after : RowTurner) (new : Cells) → before.carry ≡ carry → IsInnerTurned (inner_place place.row column beside) before after now new
         → AreGivenBlocks before.walled (walled_by (walls_there place column solid old lattice is less))
         → AreInnersTurned place (column + 1) next old new after.carry
     inner_next before after new same_carry inner given =
@@ -101,7 +104,7 @@ module _ (place : RowPlace) (column : ℕ) (solid old lattice : Cells) (is : IsR
                 | inl e ↦
                     let at : column * 64 + x % 64 ≡ x = omega (arith, e) in
                     subst (λ u. has new u (place.row * 64 + y) ≡ has next u (place.there * 64 + y)) at
-                    (inner.cells shown (walls_there place column solid old lattice is less) after_of is_after own_inner seen_edge given (subst (λ c. IsCarried c (after_of 0)) (sym same_carry) carried_in) (x % 64) y (omega arith) k l
+                    (inner.cells shown (walls_there place column solid old lattice is less) after_of is_after inner_shown given (subst (λ c. IsCarried c (after_of 0)) (sym same_carry) carried_in) (x % 64) y (omega arith) k l
                     ∙ (after_is (x % 64) y (λ z w. absurd (omega (arith, at, some, z, w))) ∙ turned_there place column solid old lattice is less (x % 64) y _ _ (omega arith) (omega (arith, l)) (around_column place column solid old lattice is less (x % 64) (omega arith)) (around_row place column solid old lattice is less y (omega (arith, l)))))
                 | inr ne ↦
                     other x (place.row * 64 + y) (let w = is.wide in omega (arith, h, less, t, w)) (row_in y (omega (arith, l))) (λ e. absurd (ne e))
@@ -110,7 +113,7 @@ module _ (place : RowPlace) (column : ℕ) (solid old lattice : Cells) (is : IsR
           rest = λ x y h k not_in.
               other x y h k (λ e f g l. not_in (omega (arith, e)) (f, (g, l)))
               ∙ so_far.rest x y h k (λ below. not_in (omega (arith, below)));
-          carried = carried_alike after.carry (made_of 64) _ (λ y k l. leaves_at y k l ∙ sym (if_false (column + 1 == 0) _ (ne_eqb (column + 1) 0 (λ e. omega (arith, e))))) (inner.leaving shown (walls_there place column solid old lattice is less) own_inner seen_edge given);
+          carried = carried_alike after.carry (made_of 64) _ (λ y k l. leaves_at y k l ∙ sym (if_false (column + 1 == 0) _ (ne_eqb (column + 1) 0 (λ e. omega (arith, e))))) (inner.leaving shown (walls_there place column solid old lattice is less) inner_shown given);
         }
 
 -- before any tile has turned

@@ -11,7 +11,7 @@ use Rattle.gas_plane.specs.Beside.{IsTurnedBeside}
 use Rattle.block_rule.specs.InPlace.{IsRowTurned, IsInnerSeen, IsSeamSeen, IsCarried, HasOtherCells}
 use Rattle.block_rule.specs.declared.blocks.Blocks.{Blocks}
 use Rattle.block_rule.specs.declared.in_place.Carry.{Carry}
-use Rattle.phase_step.specs.OddPhase.{TurnsInner, IsSeamPut, IsInnerTurned, IsFirstPut, IsEdge}
+use Rattle.phase_step.specs.OddPhase.{TurnsInner, IsSeamPut, inner_place, IsInnerShown, IsInnerTurned, IsFirstPut, IsEdge}
 use Rattle.phase_step.specs.declared.odd_phase.RowTurner.{RowTurner}
 use Rattle.phase_step.proofs.MadeCells.{with_here, with_other}
 
@@ -92,18 +92,18 @@ seam_put cells row below column i d words old bottom upper top sized low low_bel
 
 -- the rows of blocks that lie in a row of tiles
 pub inner_turned : (cells : Cells) (row column i : ℕ) (t r made : Tile) (before after : RowTurner) (edge : ℕ → Bool) → is_size (extent cells) ≡ true → row < cells.height / 64 → column < cells.width / 64 → i ≡ row * (cells.width / 64) + column → (let r = tile_rectangle cells i in IsTileFrom t cells r.x r.y)
-    → ((y : ℕ) → 1 ≤ y → y < 63 → tile.has r 0 y ≡ edge y) → TurnsInner before t r made after → IsInnerTurned row column edge before after cells (with_tile cells i made)
+    → ((y : ℕ) → 1 ≤ y → y < 63 → tile.has r 0 y ≡ edge y) → TurnsInner before t r made after → IsInnerTurned (inner_place row column edge) before after cells (with_tile cells i made)
 inner_turned cells row column i t r made before after edge sized low less place of_t of_r turns =
-    let seen : (window : ℕ → ℕ → Bool) → ((x y : ℕ) → x < 64 → 1 ≤ y → y < 63 → window (x + 1) (y + 1) ≡ has cells (column * 64 + x) (row * 64 + y)) → ((y : ℕ) → 1 ≤ y → y < 63 → window 65 (y + 1) ≡ edge y) → IsInnerSeen window t r =
-    λ window own beside. record {
-      tile = λ x y h k l. own x y h k l ∙ sym (tile_from cells row column i made sized low less place t of_t x y h (omega (arith, l)));
-      right = λ y k l. beside y k l ∙ sym (of_r y k l);
+    let seen : (window : ℕ → ℕ → Bool) → IsInnerShown (inner_place row column edge) cells window → IsInnerSeen window t r =
+    λ window shown. record {
+      tile = λ x y h k l. shown.tile x y h k l ∙ sym (tile_from cells row column i made sized low less place t of_t x y h (omega (arith, l)));
+      right = λ y k l. shown.right y k l ∙ sym (of_r y k l);
     } in
     record {
       sides = record { wide = refl; high = refl };
       walled = turns.walled;
-      cells = λ window solid after are own beside given carried x y h k l. tile_here cells row column i made sized low less place x y h (omega (arith, l)) ∙ turns.cells window solid after are (seen window own beside) given carried x y h k l;
-      leaving = λ window solid own beside. turns.leaving window solid (seen window own beside);
+      cells = λ window solid after are shown given carried x y h k l. tile_here cells row column i made sized low less place x y h (omega (arith, l)) ∙ turns.cells window solid after are (seen window shown) given carried x y h k l;
+      leaving = λ window solid shown. turns.leaving window solid (seen window shown);
       others = λ x y h k other.
           tile_others cells row column i made sized low less place t (λ _ y. (1 ≤ y) × (y < 63)) of_t
           (λ x y h k not_inner.
@@ -134,11 +134,11 @@ first_put cells row i old made carry sized low place of_old put kept =
 
 -- beside the next tile
 pub beside_turned : (cells now : Cells) (row column i : ℕ) (first : Tile) (before after : RowTurner) (edge : ℕ → Bool) → is_size (extent cells) ≡ true → row < cells.height / 64 → column < cells.width / 64 → (column + 1 ≡ cells.width / 64 → ⊥) → i ≡ row * (cells.width / 64) + column → IsEdge row column first cells edge
-    → IsTurnedBeside (λ t r made after. TurnsInner before t r made after) after cells i now → IsInnerTurned row column edge before after cells now
+    → IsTurnedBeside (λ t r made after. TurnsInner before t r made after) after cells i now → IsInnerTurned (inner_place row column edge) before after cells now
 beside_turned cells now row column i first before after edge sized low less inside place is turned =
     let next : column + 1 < cells.width / 64 = omega (arith, less, inside) in
     let place_next : i + 1 ≡ row * (cells.width / 64) + (column + 1) = omega (arith, place) in
-    subst (λ n. IsInnerTurned row column edge before after cells n) (sym turned.replaced)
+    subst (λ n. IsInnerTurned (inner_place row column edge) before after cells n) (sym turned.replaced)
     (inner_turned cells row column i turned.before turned.right turned.made before after edge sized low less place turned.of_before
     (λ y k l.
     tile_from cells row (column + 1) (i + 1) turned.made sized low next place_next turned.right turned.of_right 0 y (omega arith) (omega (arith, l))

@@ -27,17 +27,28 @@ pub record TurnsInner (before : RowTurner) (t r made : Tile) (after : RowTurner)
   pub bottom : (x : ℕ) → x < 64 → tile.has made x 63 ≡ tile.has t x 63
   pub walled : after.walled ≡ before.walled
 
--- the rows of cells 1 to 62 of a tile have turned, where `edge` has what stood to their right
-pub record IsInnerTurned (row column : ℕ) (edge : ℕ → Bool) (before after : RowTurner) (old new : Cells) : Type 0 where
+-- a tile by its row and column, and what stands to the right of its rows of cells 1 to 62
+pub record InnerPlace : Type 0 where
+  pub row : ℕ
+  pub column : ℕ
+  pub edge : ℕ → Bool
+
+abbrev pub inner_place : ℕ → ℕ → (ℕ → Bool) → InnerPlace
+inner_place row column edge = record { row = row; column = column; edge = edge }
+
+-- a window shows these rows of the tile, and what stands to their right
+pub record IsInnerShown (place : InnerPlace) (cells : Cells) (window : ℕ → ℕ → Bool) : Type 0 where
+  pub tile : (x y : ℕ) → x < 64 → 1 ≤ y → y < 63 → window (x + 1) (y + 1) ≡ has cells (place.column * 64 + x) (place.row * 64 + y)
+  pub right : (y : ℕ) → 1 ≤ y → y < 63 → window 65 (y + 1) ≡ place.edge y
+
+-- they have turned
+pub record IsInnerTurned (place : InnerPlace) (before after : RowTurner) (old new : Cells) : Type 0 where
   pub sides : HasSidesOf new old
   pub walled : after.walled ≡ before.walled
-  pub cells : (window solid after : ℕ → ℕ → Bool) → TurnsInto window solid after
-      → ((x y : ℕ) → x < 64 → 1 ≤ y → y < 63 → window (x + 1) (y + 1) ≡ has old (column * 64 + x) (row * 64 + y)) → ((y : ℕ) → 1 ≤ y → y < 63 → window 65 (y + 1) ≡ edge y)
-      → AreGivenBlocks before.walled (walled_by solid) → IsCarried before.carry (after 0)
-      → (x y : ℕ) → x < 64 → 1 ≤ y → y < 63 → has new (column * 64 + x) (row * 64 + y) ≡ after x y
-  pub leaving : (window solid : ℕ → ℕ → Bool) → ((x y : ℕ) → x < 64 → 1 ≤ y → y < 63 → window (x + 1) (y + 1) ≡ has old (column * 64 + x) (row * 64 + y)) → ((y : ℕ) → 1 ≤ y → y < 63 → window 65 (y + 1) ≡ edge y)
-      → AreGivenBlocks before.walled (walled_by solid) → IsCarried after.carry (turned_window 1 window solid 64)
-  pub others : (x y : ℕ) → x < old.width → y < old.height → (x / 64 ≡ column → y / 64 ≡ row → 1 ≤ y % 64 → y % 64 < 63 → ⊥) → has new x y ≡ has old x y
+  pub cells : (window solid after : ℕ → ℕ → Bool) → TurnsInto window solid after → IsInnerShown place old window → AreGivenBlocks before.walled (walled_by solid) → IsCarried before.carry (after 0)
+      → (x y : ℕ) → x < 64 → 1 ≤ y → y < 63 → has new (place.column * 64 + x) (place.row * 64 + y) ≡ after x y
+  pub leaving : (window solid : ℕ → ℕ → Bool) → IsInnerShown place old window → AreGivenBlocks before.walled (walled_by solid) → IsCarried after.carry (turned_window 1 window solid 64)
+  pub others : (x y : ℕ) → x < old.width → y < old.height → (x / 64 ≡ place.column → y / 64 ≡ place.row → 1 ≤ y % 64 → y % 64 < 63 → ⊥) → has new x y ≡ has old x y
 
 -- What comes from the left was put into the first column of a row of tiles, in its rows of cells 1 to 62.
 pub record IsFirstPut (row : ℕ) (carry : Carry) (old new : Cells) : Type 0 where

@@ -4,7 +4,7 @@
 ghost use Rattle.std.specs.Prelude.{◌≡◌, ℕ, ◌+◌, ◌*◌, ◌/◌, ◌<◌, ◌≤◌, Bool};
 ghost use Rattle.gas_terms.specs.Cells.{Cells, HasSidesOf, tile_count};
 ghost use Rattle.gas_terms.specs.Gas.{streamed};
-ghost use Rattle.phase_step.specs.OddPhase.{seam_place, TurnsInner, IsSeamPut, IsInnerTurned, IsFirstPut, IsEdge, IsSeamEdge, ShowsSeam, IsRowThere, HasInner, HasSeam, IsInnerRowTurned, IsSeamRowTurned};
+ghost use Rattle.phase_step.specs.OddPhase.{seam_place, TurnsInner, IsSeamPut, inner_place, IsInnerTurned, IsFirstPut, IsEdge, IsSeamEdge, ShowsSeam, IsRowThere, HasInner, HasSeam, IsInnerRowTurned, IsSeamRowTurned};
 ghost use Rattle.phase_step.specs.Solid.{all_of};
 
 use crate::steps::KnownSolid;
@@ -53,7 +53,8 @@ fn turn_inner_at(
     requires column { column < particles.old.width / 64 }
     ensures sides { HasSidesOf particles.new particles.old }
     ensures turned { (edge : ℕ → Bool) → IsEdge row column first.now particles.old edge →
-        IsInnerTurned row column edge turner.old turner.new particles.old particles.new }
+        IsInnerTurned (inner_place row column edge) turner.old turner.new
+        particles.old particles.new }
 {
     particles.shows_lattice();
     let i = row * across + column;
