@@ -11,7 +11,7 @@ ghost use Rattle.gas_ledger.specs.Books.{books_of, TickHolds, Affords};
 
 use crate::gas::Gas;
 use crate::port::Port;
-use crate::sums::tally;
+use crate::probes::tally;
 use gas_plane::Plane;
 use gas_terms::{Command, Ledger, Moved, NoMemory, Pair, Sums};
 use phase_step::Stepper;

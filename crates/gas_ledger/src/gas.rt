@@ -14,7 +14,7 @@ use crate::change::row_change;
 use crate::port::Port;
 use crate::ports::Ports;
 use crate::ports_from::PortsFrom;
-use crate::sums::probe;
+use crate::probes::probe;
 use gas_plane::Plane;
 use gas_terms::{Moved, NoMemory, Rect, Size, Sums, Tick, Took};
 use phase_step::{Flow, Run, Solids, Stepper, Still};

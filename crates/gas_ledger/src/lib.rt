@@ -12,7 +12,7 @@ pub mod gas;
 pub mod port;
 pub mod ports;
 mod ports_from;
-pub mod sums;
+mod probes;
 
 pub use apply::apply_ports;
 pub use books::Books;
@@ -20,7 +20,7 @@ pub use gas::Gas;
 pub use phase_step::Flow;
 pub use port::{Full, Port, Source};
 pub use ports::Ports;
-pub use sums::{probe, tally};
+pub use probes::{probe, tally};
 
 /// The accounts of a gas, and the sums in them.
 pub use gas_terms::{Ledger, Moved, Sums};

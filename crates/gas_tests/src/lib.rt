@@ -21,8 +21,6 @@ mod ledgers;
 #[cfg(test)]
 mod locks;
 #[cfg(test)]
-mod parts;
-#[cfg(test)]
 mod phases;
 #[cfg(test)]
 mod planes;
@@ -34,5 +32,7 @@ mod strips;
 mod teams;
 #[cfg(test)]
 mod terms;
+#[cfg(test)]
+mod tile_areas;
 #[cfg(test)]
 mod tiles;
