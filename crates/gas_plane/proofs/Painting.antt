@@ -1,5 +1,5 @@
 -- Cells are put in or taken out, tile by tile.
-use Rattle.std.proofs.Common.{◌≡◌, ℕ, ◌+◌, ◌*◌, ◌/◌, ◌%◌, ◌<◌, ◌≤◌, ◌==◌, ◌&&◌, ◌||◌, not, Bool, true, false, nat_lt, nat_le, if◌then◌else◌, refl, sym, subst, ◌∙◌, ap, ap₂, arith, inl, inr}
+use Rattle.std.proofs.Common.{◌≡◌, ℕ, ◌+◌, ◌*◌, ◌/◌, ◌%◌, ◌<◌, ◌≤◌, ◌==◌, ◌&&◌, ◌||◌, not, Bool, true, false, nat_lt, nat_le, nat_eq, IsTrue, if◌then◌else◌, refl, sym, subst, ◌∙◌, ap, ap₂, arith, inl, inr}
 use Rattle.std.proofs.lemmas.Nat.{same_from_place}
 use Rattle.std.proofs.lemmas.Bool.{cases_eq, cases_lt, eq-eqb, ne_eqb}
 use Rattle.std.proofs.lemmas.Bool.Decides.{nat_tests}
@@ -85,6 +85,9 @@ spans_all r left top all =
 
 pub outside_columns : (r : Rectangle) (x y : ℕ) → (nat_le r.x x && nat_lt x (r.x + r.w)) ≡ false → is_inside r x y ≡ false
 outside_columns r x y e = no_column (nat_le r.x x && nat_lt x (r.x + r.w)) (nat_le r.y y) (nat_lt y (r.y + r.h)) e
+
+pub no_columns : (x w k : ℕ) → IsTrue (nat_eq w 0) → (nat_le x k && nat_lt k (x + w)) ≡ false
+no_columns x w k none = grind (arith, nat_tests)
 
 pub outside_rows : (r : Rectangle) (x y : ℕ) → (nat_le r.y y && nat_lt y (r.y + r.h)) ≡ false → is_inside r x y ≡ false
 outside_rows r x y e = no_row (nat_le r.x x) (nat_lt x (r.x + r.w)) (nat_le r.y y) (nat_lt y (r.y + r.h)) e

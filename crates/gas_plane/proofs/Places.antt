@@ -1,8 +1,8 @@
 -- The numbers of tiles, and where a tile's cells stand.
-use Rattle.std.proofs.Common.{◌≡◌, ℕ, ◌+◌, ◌-◌, ◌*◌, ◌/◌, ◌%◌, ◌<◌, ◌≤◌, nat_le, nat_lt, true, ◌&&◌, sym, ◌∙◌, ap, arith, inl, inr, ◌⊎◌}
+use Rattle.std.proofs.Common.{◌≡◌, ℕ, ◌+◌, ◌-◌, ◌*◌, ◌/◌, ◌%◌, ◌<◌, ◌≤◌, nat_le, nat_lt, nat_eq, true, false, ◌&&◌, sym, ◌∙◌, ap, arith, inl, inr, ◌⊎◌}
 use Rattle.std.proofs.lemmas.Nat.{mod-mul-add}
 use Rattle.std.proofs.Math.Bool.{and_assoc}
-use Rattle.std.proofs.lemmas.Bool.{cases_eq}
+use Rattle.std.proofs.lemmas.Bool.{cases_eq, true≢false}
 use Rattle.std.proofs.lemmas.Bool.Decides.{nat_tests}
 use Rattle.bit_tile.proofs.Circles.{stays, wraps}
 use Rattle.gas_terms.specs.Cells.{Extent, is_side, is_size, Rectangle, is_inside}
@@ -78,3 +78,16 @@ pub part_alike : (part area : Rectangle) (left top : ℕ)
     → ((k : ℕ) → k < 64 → (nat_le part.y k && nat_lt k (part.y + part.h)) ≡ (nat_le area.y (top + k) && nat_lt (top + k) (area.y + area.h)))
     → (x y : ℕ) → x < 64 → y < 64 → is_inside part x y ≡ is_inside area (left + x) (top + y)
 part_alike part area left top columns rows x y h k = inside_alike part area x y (left + x) (top + y) (columns x h) (rows y k)
+
+-- and one that has columns and rows has a cell
+pub part_has_one : (part area : Rectangle) (left top : ℕ)
+    → ((k : ℕ) → k < 64 → (nat_le part.x k && nat_lt k (part.x + part.w)) ≡ (nat_le area.x (left + k) && nat_lt (left + k) (area.x + area.w)))
+    → ((k : ℕ) → k < 64 → (nat_le part.y k && nat_lt k (part.y + part.h)) ≡ (nat_le area.y (top + k) && nat_lt (top + k) (area.y + area.h)))
+    → part.x + part.w ≤ 64 → part.y + part.h ≤ 64 → nat_eq part.w 0 ≡ false → 0 < part.h
+    → ((x y : ℕ) → x < 64 → y < 64 → is_inside area (left + x) (top + y) ≡ false) → ⊥
+part_has_one part area left top columns rows wide high w h none =
+    let some : 0 < part.w = grind (arith, nat_tests) in
+    let p : part.x < 64 = omega (arith, wide, some) in
+    let q : part.y < 64 = omega (arith, high, h) in
+    let inside : is_inside part part.x part.y ≡ true = grind (arith, nat_tests) in
+    true≢false (sym inside ∙ (part_alike part area left top columns rows part.x part.y p q ∙ none part.x part.y p q))

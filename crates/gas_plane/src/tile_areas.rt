@@ -53,11 +53,11 @@ pub fn set_part(tile: &mut Tile, area: Rect, left: u32, top: u32, held: bool) ->
     tile.set_rect(x, y, w, h, held)
 }
 
-/// True only if the rectangle has none of the 64 by 64 cells from the place (left, top) on.
+/// Whether the rectangle has none of the 64 by 64 cells from the place (left, top) on.
 #[inline]
 pub fn is_apart(area: Rect, left: u32, top: u32) -> bool
-    ensures { IsTrue result → (x y : ℕ) → x < 64 → y < 64 →
-        is_inside area (left + x) (top + y) ≡ false }
+    ensures { IsTrue result ↔
+        ((x y : ℕ) → x < 64 → y < 64 → is_inside area (left + x) (top + y) ≡ false) }
 {
     let (_, w) = overlap(area.x() as u32, area.w() as u32, left);
     let (_, h) = overlap(area.y() as u32, area.h() as u32, top);
