@@ -7,7 +7,7 @@ use Rattle.gas_terms.specs.Cells.{Cells, HasSidesOf, has, extent, is_size}
 use Rattle.gas_terms.specs.Gas.{streamed}
 use Rattle.gas_plane.proofs.Places.{IsWholeTiles, high, cell_below}
 use Rattle.phase_step.specs.Parts.{start_of, row_in, IsPartOf}
-use Rattle.phase_step.specs.OddPhase.{IsRowThere, below_there, HasInner, HasSeam, IsInnerOf, IsSeamOf, IsSeamRowTurned, begins_in, AreTurnedTo}
+use Rattle.phase_step.specs.OddPhase.{IsRowThere, below_there, HasInner, HasSeam, IsInnerOf, IsSeamOf, IsSeamRowTurned, IsBegunTurned, begins_in, AreTurnedTo}
 use Rattle.phase_step.specs.declared.odd_phase.RowPlace.{RowPlace}
 use Rattle.phase_step.specs.declared.parts.Part.{Part}
 use Rattle.phase_step.proofs.OwnTiles.{down_some, row_turns}
@@ -106,11 +106,20 @@ module _ (cells : Cells) (sized : is_size (extent cells) ≡ true) where
             ]
       ]
 
--- the rows of cells 1 to 62 of a row of tiles have turned, if it is no margin
-pub record IsInnerDone (part : Part) (place : RowPlace) (next now mid : Cells) : Type 0 where
-  pub sides : HasSidesOf mid now
-  pub made : part.margin ≤ place.row → HasInner place next.width mid next
-  pub rest : (x y : ℕ) → x < now.width → y < now.height → (IsInnerOf place y → ⊥) → has mid x y ≡ has now x y
+-- the blocks that begin in a row of tiles have turned: in a margin those across the seam alone
+pub record IsRowDone (part : Part) (place : RowPlace) (next now new : Cells) : Type 0 where
+  pub sides : HasSidesOf new now
+  pub inner : part.margin ≤ place.row → HasInner place next.width new next
+  pub seam : HasSeam place next.width new next
+  pub rest : (x y : ℕ) → x < now.width → y < now.height → (part.margin ≤ place.row → IsInnerOf place y → ⊥) → (IsSeamOf place y → ⊥) → has new x y ≡ has now x y
+
+pub margin_done : (part : Part) (place : RowPlace) (next now new : Cells) → place.row < part.margin → HasSidesOf new now → IsSeamRowTurned place next now new → IsRowDone part place next now new
+margin_done part place next now new above sides seam =
+    record { sides = sides; inner = λ own. absurd (omega (arith, own, above)); seam = seam.made; rest = λ x y h k not_inner not_seam. seam.rest x y h k not_seam }
+
+pub own_done : (part : Part) (place : RowPlace) (next now new : Cells) → part.margin ≤ place.row → HasSidesOf new now → IsBegunTurned place next now new → IsRowDone part place next now new
+own_done part place next now new own sides made =
+    record { sides = sides; inner = λ _. made.inner; seam = made.seam; rest = λ x y h k not_inner not_seam. made.rest x y h k (not_inner own) not_seam }
 
 -- where a row of tiles of a part stands in the lattice
 abbrev pub place_in : Part → Cells → ℕ → RowPlace
@@ -186,16 +195,14 @@ module _ (part : Part) (solid old : Cells) (row : ℕ) (sized : is_size (extent 
           still x (row * 64 + y) h (inner_in y (omega (arith, l))) (inner_begins old sized row y less k (omega (arith, l))) (omega (arith, own)) (omega (arith, low, l, t, m))
           ∙ ap (has lattice x) (inner_there y (omega (arith, l)))
 
-      pub seam_ready : (mid : Cells) → IsInnerDone part place next now mid → HasSeam place lattice.width mid lattice
-      seam_ready mid inner =
+      pub seam_ready : HasSeam place lattice.width now lattice
+      seam_ready =
           let t = (high (extent old) sized).tiles in
           let m = is.placed.margin in
-          let kept : (x y : ℕ) → x < lattice.width → y < old.height → (IsInnerOf place y → ⊥) → has mid x y ≡ has now x y = λ x y h k. inner.rest x y (subst (λ w. x < w) (sym (so_far.sides.wide ∙ is.placed.wide)) h) (subst (λ n. y < n) (sym so_far.sides.high) k) in
           record {
             bottom = λ x h.
-                kept x (row * 64 + 63) h (inner_in 63 (omega arith)) (λ at. let g = at.1.1 in absurd (omega (arith, g)))
-                ∙ (still x (row * 64 + 63) h (inner_in 63 (omega arith)) (inner_begins old sized row 63 less (omega arith) (omega arith)) (omega (arith, m)) (omega (arith, low, t, m))
-                ∙ ap (has lattice x) (inner_there 63 (omega arith)));
+                still x (row * 64 + 63) h (inner_in 63 (omega arith)) (inner_begins old sized row 63 less (omega arith) (omega arith)) (omega (arith, m)) (omega (arith, low, t, m))
+                ∙ ap (has lattice x) (inner_there 63 (omega arith));
             top = λ x h.
                 let within : place.below * 64 < old.height = top_in old sized place.below (mod-lt (row + 1) (high (extent old) sized).some) in
                 let range : (part.margin * 63 ≤ place.below * 64) × (place.below * 64 + part.margin * 63 < old.height) =
@@ -204,24 +211,21 @@ module _ (part : Part) (solid old : Cells) (row : ℕ) (sized : is_size (extent 
                   | inr b ↦ let l = b.0 in let none : part.margin ≡ 0 = omega (arith, l, low) in (omega (arith, none), omega (arith, none, within))
                 ]
                 in
-                kept x (place.below * 64) h within (λ at. let g = at.1.0 in absurd (omega (arith, g)))
-                ∙ (still x (place.below * 64) h within (seam_begins old sized row less) range.0 range.1 ∙ ap (has lattice x) below_in);
+                still x (place.below * 64) h within (seam_begins old sized row less) range.0 range.1 ∙ ap (has lattice x) below_in;
           }
 
     -- one row of tiles more
-    pub odd_row_next : (now mid new : Cells) → AreTurnedTo row part next old now → IsInnerDone part place next now mid → HasSidesOf new mid → IsSeamRowTurned place next mid new → AreTurnedTo (row + 1) part next old new
-    odd_row_next now mid new so_far inner sides_new seam =
-        let sides_now = so_far.sides in
-        let sides_mid = inner.sides in
-        let mid_old : HasSidesOf mid old = record { wide = sides_mid.wide ∙ sides_now.wide; high = sides_mid.high ∙ sides_now.high } in
-        let rest_inner : (x y : ℕ) → x < old.width → y < old.height → (IsInnerOf place y → ⊥) → has mid x y ≡ has now x y = λ x y h k. inner.rest x y (subst (λ w. x < w) (sym sides_now.wide) h) (subst (λ n. y < n) (sym sides_now.high) k) in
-        let rest_seam : (x y : ℕ) → x < old.width → y < old.height → (IsSeamOf place y → ⊥) → has new x y ≡ has mid x y = λ x y h k. seam.rest x y (subst (λ w. x < w) (sym mid_old.wide) h) (subst (λ n. y < n) (sym mid_old.high) k) in
-        let kept : (x y : ℕ) → x < old.width → y < old.height → (begins_in old y ≡ row → ⊥) → has new x y ≡ has now x y = λ x y h k other. rest_seam x y h k (λ at. other (seam_at old sized place y less refl at)) ∙ rest_inner x y h k (λ at. other (inner_at old sized place y less at)) in
-        made_next (λ x y. begins_in old y) row 63 part next old now new so_far (record { wide = sides_new.wide ∙ sides_mid.wide; high = sides_new.high ∙ sides_mid.high }) kept
+    pub odd_row_next : (now new : Cells) → AreTurnedTo row part next old now → IsRowDone part place next now new → AreTurnedTo (row + 1) part next old new
+    odd_row_next now new so_far done =
+        let sides = so_far.sides in
+        let kept : (x y : ℕ) → x < old.width → y < old.height → (begins_in old y ≡ row → ⊥) → has new x y ≡ has now x y =
+        λ x y h k other.
+        done.rest x y (subst (λ w. x < w) (sym sides.wide) h) (subst (λ n. y < n) (sym sides.high) k) (λ own at. other (inner_at old sized place y less at)) (λ at. other (seam_at old sized place y less refl at)) in
+        made_next (λ x y. begins_in old y) row 63 part next old now new so_far done.sides kept
         (λ x y h from to e.
         let l : x < lattice.width = subst (λ w. x < w) is.placed.wide h in
         elim (begins_cases old sized row y less (omega (arith, to)) e) [
-          | inr b ↦ subst (λ n. has new x n ≡ has next x (row_in part n)) (sym b) (seam.made.top x l ∙ ap (has next x) (sym below_in))
+          | inr b ↦ subst (λ n. has new x n ≡ has next x (row_in part n)) (sym b) (done.seam.top x l ∙ ap (has next x) (sym below_in))
           | inl b ↦
               let f = b.0 in
               let g = b.1 in
@@ -230,13 +234,11 @@ module _ (part : Part) (solid old : Cells) (row : ℕ) (sized : is_size (extent 
               (elim (cases_eq (y % 64) 63) [
                 | inl last ↦
                     subst (λ v. has new x (row * 64 + v) ≡ has next x (row_in part (row * 64 + v))) (sym last)
-                    (seam.made.bottom x l ∙ ap (has next x) (sym (inner_there 63 (omega arith))))
+                    (done.seam.bottom x l ∙ ap (has next x) (sym (inner_there 63 (omega arith))))
                 | inr not_last ↦
                     let m = is.placed.margin in
                     let own : part.margin ≤ row = omega (arith, from, f, not_last, m) in
-                    let low_y : y % 64 < 63 = omega (arith, not_last) in
-                    rest_seam x (row * 64 + y % 64) h (subst (λ n. n < old.height) (sym same) (omega (arith, to))) (λ at. elim at [ inl z ↦ not_last (omega (arith, z)) | inr z ↦ absurd (omega (arith, z, g)) ])
-                    ∙ (inner.made own x (y % 64) l g low_y ∙ ap (has next x) (sym (inner_there (y % 64) (omega arith))))
+                    done.inner own x (y % 64) l g (omega (arith, not_last)) ∙ ap (has next x) (sym (inner_there (y % 64) (omega arith)))
               ])
         ])
 

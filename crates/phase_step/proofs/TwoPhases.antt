@@ -5,7 +5,7 @@ use Rattle.std.proofs.lemmas.Bool.{cases_eq}
 use Rattle.gas_terms.specs.Cells.{Cells, HasSidesOf, has, extent, is_size, tile_count, IsFull}
 use Rattle.gas_terms.proofs.Cells.{same_cells}
 use Rattle.gas_plane.proofs.Places.{high, cell_below}
-use Rattle.phase_step.specs.OddPhase.{IsRowThere, HasRow, HasInner, HasSeam, IsInnerOf, IsSeamOf, IsEvenRowTurned, IsInnerRowTurned, IsSeamRowTurned, begins_in, AreTurnedTwice, IsNextTurned, once_turned, twice_turned}
+use Rattle.phase_step.specs.OddPhase.{IsRowThere, HasRow, HasInner, HasSeam, IsEvenRowTurned, IsBegunTurned, begins_in, AreTurnedTwice, IsNextTurned, once_turned, twice_turned}
 use Rattle.phase_step.specs.declared.odd_phase.RowPlace.{RowPlace}
 use Rattle.phase_step.proofs.OddParts.{above, below_is, inner_begins, seam_begins, begins_cases, top_in, inner_at, seam_at}
 
@@ -126,50 +126,42 @@ module _ (solid old : Cells) (row : ℕ) (sized : is_size (extent old) ≡ true)
         ready.once x (row * 64 + y) h (cell_below old.height row y (high (extent old) sized) low (omega (arith, l)))
         (let e = inner_begins old sized row y low k (omega (arith, l)) in omega (arith, e)) (omega (arith, l))
 
-    module _ (inner : Cells) (of_inner : HasSidesOf inner now) (made : IsInnerRowTurned place next now inner) where
-      rest_inner : (x y : ℕ) → x < old.width → y < old.height → (IsInnerOf place y → ⊥) → has inner x y ≡ has now x y
-      rest_inner x y h k = made.rest x y (subst (λ w. x < w) (sym ready.sides.wide) h) (subst (λ n. y < n) (sym ready.sides.high) k)
+    pub whole_seam_ready : HasSeam place mid.width now mid
+    whole_seam_ready =
+        let down = high (extent old) sized in
+        record {
+          bottom = λ x h.
+              let k = cell_below old.height row 63 down low (omega arith) in
+              ready.once x (row * 64 + 63) h k (let e = inner_begins old sized row 63 low (omega arith) (omega arith) in omega (arith, e)) (omega arith);
+          top = λ x h.
+              let k = top_in old sized place.below (mod-lt (row + 1) down.some) in
+              let up : place.below ≤ row + 1 = elim (below_is (old.height / 64) row low) [ inl b ↦ let e = b.1 in omega (arith, e) | inr b ↦ let e = b.1 in omega (arith, e) ] in
+              ready.once x (place.below * 64) h k (let e = seam_begins old sized row low in omega (arith, e)) (omega (arith, up));
+        }
 
-      pub whole_seam_ready : HasSeam place mid.width inner mid
-      whole_seam_ready =
-          let down = high (extent old) sized in
-          record {
-            bottom = λ x h.
-                let k = cell_below old.height row 63 down low (omega arith) in
-                rest_inner x (row * 64 + 63) h k (λ at. let g = at.1.1 in absurd (omega (arith, g)))
-                ∙ ready.once x (row * 64 + 63) h k (let e = inner_begins old sized row 63 low (omega arith) (omega arith) in omega (arith, e)) (omega arith);
-            top = λ x h.
-                let k = top_in old sized place.below (mod-lt (row + 1) down.some) in
-                let up : place.below ≤ row + 1 = elim (below_is (old.height / 64) row low) [ inl b ↦ let e = b.1 in omega (arith, e) | inr b ↦ let e = b.1 in omega (arith, e) ] in
-                rest_inner x (place.below * 64) h k (λ at. let g = at.1.0 in absurd (omega (arith, g)))
-                ∙ ready.once x (place.below * 64) h k (let e = seam_begins old sized row low in omega (arith, e)) (omega (arith, up));
-          }
-
-      pub turned_twice : (new : Cells) → HasSidesOf new inner → IsSeamRowTurned place next inner new → AreTurnedTwice (row + 1) mid next old new
-      turned_twice new of_new seam =
-          let inner_old : HasSidesOf inner old = record { wide = of_inner.wide ∙ ready.sides.wide; high = of_inner.high ∙ ready.sides.high } in
-          let rest_seam : (x y : ℕ) → x < old.width → y < old.height → (IsSeamOf place y → ⊥) → has new x y ≡ has inner x y = λ x y h k. seam.rest x y (subst (λ w. x < w) (sym inner_old.wide) h) (subst (λ n. y < n) (sym inner_old.high) k) in
-          let kept : (x y : ℕ) → x < old.width → y < old.height → (begins_in old y ≡ row → ⊥) → has new x y ≡ has now x y = λ x y h k other. rest_seam x y h k (λ at. other (seam_at old sized place y low refl at)) ∙ rest_inner x y h k (λ at. other (inner_at old sized place y low at)) in
-          record {
-            sides = record { wide = of_new.wide ∙ inner_old.wide; high = of_new.high ∙ inner_old.high };
-            twice = λ x y h k before.
-                elim (cases_eq (begins_in old y) row) [
-                  | inr ne ↦ kept x y h k ne ∙ ready.twice x y h k (omega (arith, ne, before))
-                  | inl e ↦ elim (begins_cases old sized row y low k e) [
-                    | inr b ↦ subst (λ n. has new x n ≡ has next x n) (sym b) (seam.made.top x h)
-                    | inl b ↦
-                        let f = b.0 in
-                        let g = b.1 in
-                        let same : row * 64 + y % 64 ≡ y = omega (arith, f) in
-                        subst (λ n. has new x n ≡ has next x n) same
-                        (elim (cases_eq (y % 64) 63) [
-                          | inl last ↦ subst (λ v. has new x (row * 64 + v) ≡ has next x (row * 64 + v)) (sym last) (seam.made.bottom x h)
-                          | inr not_last ↦
-                              rest_seam x (row * 64 + y % 64) h (subst (λ n. n < old.height) (sym same) k) (λ at. elim at [ inl z ↦ not_last (omega (arith, z)) | inr z ↦ absurd (omega (arith, z, g)) ])
-                              ∙ made.made x (y % 64) h g (omega (arith, not_last))
-                        ])
-                  ]
-                ];
-            once = λ x y h k from up. kept x y h k (λ e. absurd (omega (arith, e, from))) ∙ ready.once x y h k (omega (arith, from)) up;
-            rest = λ x y h k below. kept x y h k (λ e. let l = begins_below y (row + 1) k (omega (arith, below)) in absurd (omega (arith, l, e))) ∙ ready.rest x y h k below;
-          }
+    pub turned_twice : (new : Cells) → HasSidesOf new now → IsBegunTurned place next now new → AreTurnedTwice (row + 1) mid next old new
+    turned_twice new of_new made =
+        let kept : (x y : ℕ) → x < old.width → y < old.height → (begins_in old y ≡ row → ⊥) → has new x y ≡ has now x y =
+        λ x y h k other.
+        made.rest x y (subst (λ w. x < w) (sym ready.sides.wide) h) (subst (λ n. y < n) (sym ready.sides.high) k) (λ at. other (inner_at old sized place y low at)) (λ at. other (seam_at old sized place y low refl at)) in
+        record {
+          sides = record { wide = of_new.wide ∙ ready.sides.wide; high = of_new.high ∙ ready.sides.high };
+          twice = λ x y h k before.
+              elim (cases_eq (begins_in old y) row) [
+                | inr ne ↦ kept x y h k ne ∙ ready.twice x y h k (omega (arith, ne, before))
+                | inl e ↦ elim (begins_cases old sized row y low k e) [
+                  | inr b ↦ subst (λ n. has new x n ≡ has next x n) (sym b) (made.seam.top x h)
+                  | inl b ↦
+                      let f = b.0 in
+                      let g = b.1 in
+                      let same : row * 64 + y % 64 ≡ y = omega (arith, f) in
+                      subst (λ n. has new x n ≡ has next x n) same
+                      (elim (cases_eq (y % 64) 63) [
+                        | inl last ↦ subst (λ v. has new x (row * 64 + v) ≡ has next x (row * 64 + v)) (sym last) (made.seam.bottom x h)
+                        | inr not_last ↦ made.inner x (y % 64) h g (omega (arith, not_last))
+                      ])
+                ]
+              ];
+          once = λ x y h k from up. kept x y h k (λ e. absurd (omega (arith, e, from))) ∙ ready.once x y h k (omega (arith, from)) up;
+          rest = λ x y h k below. kept x y h k (λ e. let l = begins_below y (row + 1) k (omega (arith, below)) in absurd (omega (arith, l, e))) ∙ ready.rest x y h k below;
+        }

@@ -8,6 +8,7 @@ ghost use Rattle.phase_step.specs.Parts.{start_of, AreOwn, IsPartOfSome, whole_p
 
 mod acting;
 mod counting;
+mod rows;
 mod running;
 mod strip_sweep;
 mod sweeping;

@@ -3,121 +3,15 @@
 ghost use Rattle.std.specs.Prelude.{◌≡◌, ◌+◌, ◌-◌, ◌*◌, ◌/◌, ◌<◌, ◌≤◌};
 ghost use Rattle.gas_terms.specs.Cells.{Cells, HasSidesOf, joined, tile_count};
 ghost use Rattle.gas_terms.specs.Gas.{streamed};
-ghost use Rattle.phase_step.specs.SolidBlocks.{HasNoBlocks};
 ghost use Rattle.phase_step.specs.Parts.{IsPartOf, IsReady};
-ghost use Rattle.phase_step.specs.OddPhase.{AreTurnedOn, IsRowIn, place_at, TurnsBegun, TurnsEven};
+ghost use Rattle.phase_step.specs.OddPhase.{AreTurnedOn};
 ghost use Rattle.phase_step.specs.Solid.{all_of};
 
-use crate::even_phase::turn_even_row;
-use crate::odd_phase::{RowPlace, turn_inner_row, turn_seam};
-use crate::parts::{Part, row_there};
+use crate::odd_phase::turn_seam;
+use crate::parts::Part;
+use crate::parts::rows::{place_of, turn_begun, turn_even};
 use crate::steps::{KnownSolid, Solids};
-use gas_plane::{Plane, after};
-
-// The blocks of parity 1 that begin in a row of tiles.
-#[inline(always)]
-fn turn_begun(particles: &mut Plane, known: KnownSolid<'_>, place: RowPlace)
-    requires { IsRowIn place (all_of known.solids.now) particles.old }
-    ensures sides { HasSidesOf particles.new particles.old }
-    ensures turned { TurnsBegun place (all_of known.entry.solids.now) particles.old particles.new }
-{
-    particles.shows_lattice();
-    turn_inner_row(particles, known, place);
-    turn_seam(particles, known, place);
-}
-
-// The same, compiled for no walls. The compiler makes vectors of it only by itself.
-#[inline(never)]
-fn turn_begun_free(particles: &mut Plane, solids: &Solids, place: RowPlace)
-    requires none { HasNoBlocks (all_of solids.now) }
-    requires row { IsRowIn place (all_of solids.now) particles.old }
-    ensures sides { HasSidesOf particles.new particles.old }
-    ensures turned { TurnsBegun place (all_of solids.now) particles.old particles.new }
-{
-    turn_begun(particles, KnownSolid { solids, free: true }, place);
-}
-
-// And among some.
-#[inline(never)]
-fn turn_begun_among(particles: &mut Plane, solids: &Solids, place: RowPlace)
-    requires { IsRowIn place (all_of solids.now) particles.old }
-    ensures sides { HasSidesOf particles.new particles.old }
-    ensures turned { TurnsBegun place (all_of solids.now) particles.old particles.new }
-{
-    turn_begun(
-        particles,
-        KnownSolid {
-            solids,
-            free: false,
-        },
-        place,
-    );
-}
-
-fn turn_begun_known(particles: &mut Plane, known: KnownSolid<'_>, place: RowPlace)
-    requires { IsRowIn place (all_of known.solids.now) particles.old }
-    ensures sides { HasSidesOf particles.new particles.old }
-    ensures turned { TurnsBegun place (all_of known.entry.solids.now) particles.old particles.new }
-{
-    if known.free {
-        turn_begun_free(particles, known.solids, place);
-    } else {
-        turn_begun_among(particles, known.solids, place);
-    }
-}
-
-// The blocks of parity 0 of a row of tiles, compiled for no walls.
-#[inline(never)]
-fn turn_even_free(particles: &mut Plane, solids: &Solids, place: RowPlace)
-    requires none { HasNoBlocks (all_of solids.now) }
-    requires row { IsRowIn place (all_of solids.now) particles.old }
-    ensures sides { HasSidesOf particles.new particles.old }
-    ensures turned { TurnsEven place (all_of solids.now) particles.old particles.new }
-{
-    turn_even_row(particles, KnownSolid { solids, free: true }, place);
-}
-
-// And among some.
-#[inline(never)]
-fn turn_even_among(particles: &mut Plane, solids: &Solids, place: RowPlace)
-    requires { IsRowIn place (all_of solids.now) particles.old }
-    ensures sides { HasSidesOf particles.new particles.old }
-    ensures turned { TurnsEven place (all_of solids.now) particles.old particles.new }
-{
-    turn_even_row(
-        particles,
-        KnownSolid {
-            solids,
-            free: false,
-        },
-        place,
-    );
-}
-
-fn turn_even_known(particles: &mut Plane, known: KnownSolid<'_>, place: RowPlace)
-    requires { IsRowIn place (all_of known.solids.now) particles.old }
-    ensures sides { HasSidesOf particles.new particles.old }
-    ensures turned { TurnsEven place (all_of known.entry.solids.now) particles.old particles.new }
-{
-    if known.free {
-        turn_even_free(particles, known.solids, place);
-    } else {
-        turn_even_among(particles, known.solids, place);
-    }
-}
-
-// Where a row of tiles of a part stands.
-fn place_of(part: Part, row: u32, down: u32) -> RowPlace
-    requires part { (part.first < part.down) × (part.down ≤ 64) × (part.margin ≤ 1) }
-    requires row { (row < down) × (down ≤ 4096) }
-    ensures { result ≡ place_at part down row }
-{
-    RowPlace {
-        row,
-        below: after(row, down),
-        there: row_there(part, row),
-    }
-}
+use gas_plane::Plane;
 
 // An own row of tiles turns at parity 1 and then at parity 0, after the seam above it.
 fn turn_own_row(particles: &mut Plane, known: KnownSolid<'_>, part: Part, row: u32)
@@ -133,8 +27,8 @@ fn turn_own_row(particles: &mut Plane, known: KnownSolid<'_>, part: Part, row: u
         AreTurnedOn (row + 1) part mid next old particles.new }
 {
     let place = place_of(part, row, particles.down());
-    turn_begun_known(particles, known, place);
-    turn_even_known(particles, known, place);
+    turn_begun(particles, known, place);
+    turn_even(particles, known, place);
 }
 
 /// Two phases of a strip's own tiles, of parity 1 and then of parity 0. Nothing is counted, and nothing acts between them.

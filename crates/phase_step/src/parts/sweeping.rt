@@ -4,16 +4,15 @@
 ghost use Rattle.std.specs.Prelude.{◌≡◌, ◌+◌, ◌/◌, ◌%◌, ◌<◌, ◌≤◌};
 ghost use Rattle.gas_terms.specs.Cells.{Cells, HasSidesOf};
 ghost use Rattle.gas_terms.specs.Gas.{streamed};
-ghost use Rattle.phase_step.specs.SolidBlocks.{HasNoBlocks};
 ghost use Rattle.phase_step.specs.OddPhase.{TurnsNext, TurnsSecond, TurnsTwice};
 ghost use Rattle.phase_step.specs.Runs.{particles_after};
 ghost use Rattle.phase_step.specs.Solid.{all_of};
 
-use crate::even_phase::turn_even_row;
-use crate::odd_phase::{RowPlace, turn_inner_row, turn_seam};
+use crate::odd_phase::RowPlace;
+use crate::parts::rows::{turn_begun, turn_even};
 use crate::parts::turning::turn_part;
 use crate::parts::whole;
-use crate::steps::{KnownSolid, Solids};
+use crate::steps::KnownSolid;
 use gas_plane::{Plane, after};
 
 // Where a row of tiles of the whole lattice stands.
@@ -31,7 +30,6 @@ fn place_of(row: u32, down: u32) -> RowPlace
 }
 
 // The row of tiles below this one turns at parity 0.
-#[inline(always)]
 fn turn_next(particles: &mut Plane, known: KnownSolid<'_>, row: u32)
     requires row { row < particles.old.height / 64 }
     requires solid { HasSidesOf (all_of known.solids.now) particles.old }
@@ -40,12 +38,11 @@ fn turn_next(particles: &mut Plane, known: KnownSolid<'_>, row: u32)
 {
     let down = particles.down();
     if row + 1 < down {
-        turn_even_row(particles, known, place_of(row + 1, down));
+        turn_even(particles, known, place_of(row + 1, down));
     }
 }
 
 // This row of tiles turns at parity 1, after the one below it at parity 0.
-#[inline(always)]
 fn turn_second(particles: &mut Plane, known: KnownSolid<'_>, row: u32)
     requires row { row < particles.old.height / 64 }
     requires solid { HasSidesOf (all_of known.solids.now) particles.old }
@@ -53,66 +50,7 @@ fn turn_second(particles: &mut Plane, known: KnownSolid<'_>, row: u32)
     ensures turned { TurnsSecond row (all_of known.entry.solids.now) particles.old particles.new }
 {
     let place = place_of(row, particles.down());
-    turn_inner_row(particles, known, place);
-    turn_seam(particles, known, place);
-}
-
-// Both, compiled for no walls. The compiler makes vectors of each only by itself.
-#[inline(never)]
-fn turn_next_free(particles: &mut Plane, solids: &Solids, row: u32)
-    requires none { HasNoBlocks (all_of solids.now) }
-    requires row { row < particles.old.height / 64 }
-    requires solid { HasSidesOf (all_of solids.now) particles.old }
-    ensures sides { HasSidesOf particles.new particles.old }
-    ensures turned { TurnsNext row (all_of solids.now) particles.old particles.new }
-{
-    turn_next(particles, KnownSolid { solids, free: true }, row);
-}
-
-#[inline(never)]
-fn turn_second_free(particles: &mut Plane, solids: &Solids, row: u32)
-    requires none { HasNoBlocks (all_of solids.now) }
-    requires row { row < particles.old.height / 64 }
-    requires solid { HasSidesOf (all_of solids.now) particles.old }
-    ensures sides { HasSidesOf particles.new particles.old }
-    ensures turned { TurnsSecond row (all_of solids.now) particles.old particles.new }
-{
-    turn_second(particles, KnownSolid { solids, free: true }, row);
-}
-
-// And among some.
-#[inline(never)]
-fn turn_next_among(particles: &mut Plane, solids: &Solids, row: u32)
-    requires row { row < particles.old.height / 64 }
-    requires solid { HasSidesOf (all_of solids.now) particles.old }
-    ensures sides { HasSidesOf particles.new particles.old }
-    ensures turned { TurnsNext row (all_of solids.now) particles.old particles.new }
-{
-    turn_next(
-        particles,
-        KnownSolid {
-            solids,
-            free: false,
-        },
-        row,
-    );
-}
-
-#[inline(never)]
-fn turn_second_among(particles: &mut Plane, solids: &Solids, row: u32)
-    requires row { row < particles.old.height / 64 }
-    requires solid { HasSidesOf (all_of solids.now) particles.old }
-    ensures sides { HasSidesOf particles.new particles.old }
-    ensures turned { TurnsSecond row (all_of solids.now) particles.old particles.new }
-{
-    turn_second(
-        particles,
-        KnownSolid {
-            solids,
-            free: false,
-        },
-        row,
-    );
+    turn_begun(particles, known, place);
 }
 
 fn turn_twice(particles: &mut Plane, known: KnownSolid<'_>, row: u32)
@@ -121,13 +59,8 @@ fn turn_twice(particles: &mut Plane, known: KnownSolid<'_>, row: u32)
     ensures sides { HasSidesOf particles.new particles.old }
     ensures turned { TurnsTwice row (all_of known.entry.solids.now) particles.old particles.new }
 {
-    if known.free {
-        turn_next_free(particles, known.solids, row);
-        turn_second_free(particles, known.solids, row);
-    } else {
-        turn_next_among(particles, known.solids, row);
-        turn_second_among(particles, known.solids, row);
-    }
+    turn_next(particles, known, row);
+    turn_second(particles, known, row);
 }
 
 // The phases of parity 0 and 1.
@@ -137,7 +70,7 @@ fn turn_both(particles: &mut Plane, known: KnownSolid<'_>)
         particles.new ≡ streamed 1 (streamed 0 particles.old solid) solid }
 {
     let down = particles.down();
-    turn_even_row(particles, known, place_of(0, down));
+    turn_even(particles, known, place_of(0, down));
     for row in 0..down {
         turn_twice(particles, known, row);
     }

@@ -1,22 +1,20 @@
 //! A phase of a part, in place: its particles turn, and nothing is counted.
 
-ghost use Rattle.std.specs.Prelude.{◌≡◌, ℕ, ◌+◌, ◌-◌, ◌*◌, ◌/◌, ◌<◌, ◌≤◌};
+ghost use Rattle.std.specs.Prelude.{◌≡◌, ◌+◌, ◌-◌, ◌*◌, ◌/◌, ◌<◌, ◌≤◌};
 ghost use Rattle.gas_terms.specs.Cells.{Cells, tile_count, HasSidesOf};
 ghost use Rattle.gas_terms.specs.Gas.{streamed};
-ghost use Rattle.phase_step.specs.SolidBlocks.{HasNoBlocks};
 ghost use Rattle.phase_step.specs.Parts.{IsPartOf, IsReady, IsTurned};
 ghost use Rattle.phase_step.specs.OddPhase.{AreTurnedTo, AreRowsMadeTo};
 ghost use Rattle.phase_step.specs.Solid.{all_of};
 
-use crate::even_phase::turn_even_row;
-use crate::odd_phase::{RowPlace, turn_inner_row, turn_seam};
-use crate::parts::{Part, row_there};
-use crate::steps::{KnownSolid, Solids};
-use gas_plane::{Plane, after};
+use crate::odd_phase::turn_seam;
+use crate::parts::Part;
+use crate::parts::rows::{place_of, turn_begun, turn_even};
+use crate::steps::KnownSolid;
+use gas_plane::Plane;
 
 // The phase of parity 1 of the blocks that begin in a row of tiles of a part, in place. In a row of
 // the margin only those across the seam reach the part's own rows.
-#[inline(always)]
 fn turn_odd_row(particles: &mut Plane, known: KnownSolid<'_>, part: Part, row: u32)
     requires part { (part.first < part.down) × (part.down ≤ 64) × (part.margin ≤ 1) }
     requires row { row + part.margin < particles.old.height / 64 }
@@ -28,21 +26,16 @@ fn turn_odd_row(particles: &mut Plane, known: KnownSolid<'_>, part: Part, row: u
         AreTurnedTo row part next old particles.old →
         AreTurnedTo (row + 1) part next old particles.new }
 {
-    let down = particles.down();
-    let place = RowPlace {
-        row,
-        below: after(row, down),
-        there: row_there(part, row),
-    };
-    if row >= part.margin {
-        turn_inner_row(particles, known, place);
+    let place = place_of(part, row, particles.down());
+    if row < part.margin {
+        turn_seam(particles, known, place);
+    } else {
+        turn_begun(particles, known, place);
     }
-    turn_seam(particles, known, place);
 }
 
 // The phase of parity 1 of a part's own tiles, in place. A part with margins begins with the seam
 // above its first own row.
-#[inline(always)]
 fn turn_odd_rows(particles: &mut Plane, known: KnownSolid<'_>, part: Part)
     requires ready { IsReady part (all_of known.solids.now) particles.old 63 }
     ensures sides { HasSidesOf particles.new particles.old }
@@ -53,50 +46,7 @@ fn turn_odd_rows(particles: &mut Plane, known: KnownSolid<'_>, part: Part)
     }
 }
 
-// The same, compiled for no walls. The compiler makes vectors of it only apart from the loops of a
-// run.
-#[inline(never)]
-fn turn_odd_free(particles: &mut Plane, solids: &Solids, part: Part)
-    requires none { HasNoBlocks (all_of solids.now) }
-    requires ready { IsReady part (all_of solids.now) particles.old 63 }
-    ensures sides { HasSidesOf particles.new particles.old }
-    ensures phase { IsTurned part 1 (all_of solids.now) particles.old particles.new }
-{
-    turn_odd_rows(particles, KnownSolid { solids, free: true }, part);
-}
-
-// And among some.
-#[inline(never)]
-fn turn_odd_among(particles: &mut Plane, solids: &Solids, part: Part)
-    requires ready { IsReady part (all_of solids.now) particles.old 63 }
-    ensures sides { HasSidesOf particles.new particles.old }
-    ensures phase { IsTurned part 1 (all_of solids.now) particles.old particles.new }
-{
-    turn_odd_rows(
-        particles,
-        KnownSolid {
-            solids,
-            free: false,
-        },
-        part,
-    );
-}
-
-#[inline(always)]
-fn turn_odd_part(particles: &mut Plane, known: KnownSolid<'_>, part: Part)
-    requires ready { IsReady part (all_of known.solids.now) particles.old 63 }
-    ensures sides { HasSidesOf particles.new particles.old }
-    ensures phase { IsTurned part 1 (all_of known.entry.solids.now) particles.old particles.new }
-{
-    if known.free {
-        turn_odd_free(particles, known.solids, part);
-    } else {
-        turn_odd_among(particles, known.solids, part);
-    }
-}
-
 // The phase of parity 0 of an own row of tiles of a part, in place.
-#[inline(always)]
 fn turn_even_in(particles: &mut Plane, known: KnownSolid<'_>, part: Part, row: u32)
     requires part { (part.first < part.down) × (part.down ≤ 64) × (part.margin ≤ 1) }
     requires own { part.margin ≤ row }
@@ -109,16 +59,11 @@ fn turn_even_in(particles: &mut Plane, known: KnownSolid<'_>, part: Part, row: u
         AreRowsMadeTo row part next old particles.old →
         AreRowsMadeTo (row + 1) part next old particles.new }
 {
-    let place = RowPlace {
-        row,
-        below: after(row, particles.down()),
-        there: row_there(part, row),
-    };
-    turn_even_row(particles, known, place);
+    let place = place_of(part, row, particles.down());
+    turn_even(particles, known, place);
 }
 
 // The phase of parity 0 of a part's own tiles, in place.
-#[inline(always)]
 fn turn_even_rows(particles: &mut Plane, known: KnownSolid<'_>, part: Part)
     requires ready { IsReady part (all_of known.solids.now) particles.old 64 }
     ensures sides { HasSidesOf particles.new particles.old }
@@ -129,49 +74,7 @@ fn turn_even_rows(particles: &mut Plane, known: KnownSolid<'_>, part: Part)
     }
 }
 
-// The same, compiled for no walls.
-#[inline(never)]
-fn turn_even_free(particles: &mut Plane, solids: &Solids, part: Part)
-    requires none { HasNoBlocks (all_of solids.now) }
-    requires ready { IsReady part (all_of solids.now) particles.old 64 }
-    ensures sides { HasSidesOf particles.new particles.old }
-    ensures phase { IsTurned part 0 (all_of solids.now) particles.old particles.new }
-{
-    turn_even_rows(particles, KnownSolid { solids, free: true }, part);
-}
-
-// And among some.
-#[inline(never)]
-fn turn_even_among(particles: &mut Plane, solids: &Solids, part: Part)
-    requires ready { IsReady part (all_of solids.now) particles.old 64 }
-    ensures sides { HasSidesOf particles.new particles.old }
-    ensures phase { IsTurned part 0 (all_of solids.now) particles.old particles.new }
-{
-    turn_even_rows(
-        particles,
-        KnownSolid {
-            solids,
-            free: false,
-        },
-        part,
-    );
-}
-
-#[inline(always)]
-fn turn_even_part(particles: &mut Plane, known: KnownSolid<'_>, part: Part)
-    requires ready { IsReady part (all_of known.solids.now) particles.old 64 }
-    ensures sides { HasSidesOf particles.new particles.old }
-    ensures phase { IsTurned part 0 (all_of known.entry.solids.now) particles.old particles.new }
-{
-    if known.free {
-        turn_even_free(particles, known.solids, part);
-    } else {
-        turn_even_among(particles, known.solids, part);
-    }
-}
-
 /// A phase of a part's own tiles, in place.
-#[inline(always)]
 pub fn turn_part(particles: &mut Plane, known: KnownSolid<'_>, part: Part, parity: u8)
     requires parity { parity < 2 }
     requires ready { IsReady part (all_of known.solids.now) particles.old (64 - parity) }
@@ -180,8 +83,8 @@ pub fn turn_part(particles: &mut Plane, known: KnownSolid<'_>, part: Part, parit
         IsTurned part parity solid particles.old particles.new }
 {
     if parity == 0 {
-        turn_even_part(particles, known, part);
+        turn_even_rows(particles, known, part);
     } else {
-        turn_odd_part(particles, known, part);
+        turn_odd_rows(particles, known, part);
     }
 }

@@ -15,7 +15,7 @@ returns-clause-turned c = λ old lattice of_solid is so_far.
     let part = c.args.part in
     let row = c.args.row in
     let now = c.args.particles.now in
-    let begun = c.turn_begun_known.new.particles in
+    let begun = c.turn_begun.new.particles in
     let mid = streamed 1 lattice solid in
     let next = streamed 0 mid solid in
     let strip = c.requires.part.2 in
@@ -29,16 +29,16 @@ returns-clause-turned c = λ old lattice of_solid is so_far.
     let there = row_there_is part solid old row sized low lattice is of_solid now so_far.sides in
     let made : IsBegunTurned place mid now begun =
     subst (λ (p : RowPlace). IsBegunTurned p mid now begun) same
-    (c.turn_begun_known.ensures.turned lattice
+    (c.turn_begun.ensures.turned lattice
     (subst (λ (p : RowPlace). IsRowThere p solid now lattice) (sym same) there)
     (subst (λ (p : RowPlace). HasInner p lattice.width now lattice) (sym same) (inner_on part solid old row sized low strip lattice is of_solid now so_far.rest own))
     (subst (λ (p : RowPlace). HasSeam p lattice.width now lattice) (sym same) (seam_on part solid old row sized low strip lattice is of_solid now so_far.rest))) in
-    let sides = c.turn_begun_known.ensures.sides in
+    let sides = c.turn_begun.ensures.sides in
     let old_begun : HasSidesOf begun old = record { wide = sides.wide ∙ so_far.sides.wide; high = sides.high ∙ so_far.sides.high } in
     let again : IsRowThere place solid begun mid = record { sized = is.sized; of_solid = record { wide = of_solid.wide; high = of_solid.high }; wide = old_begun.wide ∙ is.placed.wide; low = there.low } in
-    let even : IsEvenRowTurned place next begun c.turn_even_known.new.particles =
-    subst (λ (p : RowPlace). IsEvenRowTurned p next begun c.turn_even_known.new.particles) same
-    (c.turn_even_known.ensures.turned mid
+    let even : IsEvenRowTurned place next begun c.turn_even.new.particles =
+    subst (λ (p : RowPlace). IsEvenRowTurned p next begun c.turn_even.new.particles) same
+    (c.turn_even.ensures.turned mid
     (subst (λ (p : RowPlace). IsRowThere p solid begun mid) (sym same) again)
     (subst (λ (p : RowPlace). HasRow p mid.width begun mid) (sym same) (row_ready part solid old row sized low strip lattice is of_solid now begun so_far sides made))) in
-    row_on part solid old row sized low strip lattice is of_solid now begun so_far sides made c.turn_even_known.new.particles c.turn_even_known.ensures.sides even
+    row_on part solid old row sized low strip lattice is of_solid now begun so_far sides made c.turn_even.new.particles c.turn_even.ensures.sides even

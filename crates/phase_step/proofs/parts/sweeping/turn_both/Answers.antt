@@ -17,12 +17,12 @@ loop-row-init c =
     let place = place_in_whole old 0 in
     let same : c.place_of.result ≡ place = place_in_whole_is c.place_of.result old 0 c.place_of.ensures.row (c.place_of.ensures.below ∙ ap (λ n. (0 + 1) % n) c.down-down.ensures.down) c.place_of.ensures.there in
     let low : 0 < old.height / 64 = let d = c.down-down.ensures.down in let p = c.down-down.ensures.positive in omega (arith, d, p) in
-    let made = c.turn_even_row.ensures.turned old
+    let made = c.turn_even.ensures.turned old
     (subst (λ (p : RowPlace). IsRowThere p solid old old) (sym same) (whole_row_there_is solid old old 0 of.sized c.requires.solid (record { wide = refl; high = refl }) low))
     (subst (λ (p : RowPlace). HasRow p old.width old old) (sym same) (λ x y h k. refl)) in
     record {
-      sides = c.turn_even_row.ensures.sides;
-      turned = first_turned mid next old c.turn_even_row.new.particles c.turn_even_row.ensures.sides (record { wide = refl; high = refl }) (subst (λ (p : RowPlace). IsEvenRowTurned p mid old c.turn_even_row.new.particles) same made);
+      sides = c.turn_even.ensures.sides;
+      turned = first_turned mid next old c.turn_even.new.particles c.turn_even.ensures.sides (record { wide = refl; high = refl }) (subst (λ (p : RowPlace). IsEvenRowTurned p mid old c.turn_even.new.particles) same made);
     }
 
 pub turn_twice-requires-clause-row : goal.turn_twice-requires-clause-row

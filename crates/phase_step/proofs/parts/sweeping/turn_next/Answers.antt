@@ -10,16 +10,16 @@ returns-then-row-down-clause-turned c = λ old of so_far.
     let solid = all_of c.args.known.solids.now in
     let row = c.args.row in
     let now = c.args.particles.now in
-    let new = c.turn_even_row.new.particles in
+    let new = c.turn_even.new.particles in
     let sides = so_far.sides in
     let among = setting solid old now row sides c.requires.solid c.requires.row in
     let down : c.down-down.result ≡ old.height / 64 = c.down-down.ensures.down ∙ ap (λ h. h / 64) sides.high in
     let more : row + 1 < old.height / 64 = subst (λ n. row + 1 < n) down c.if-row-down.true in
     let same : c.place_of.result ≡ place_in_whole old (row + 1) = place_in_whole_is c.place_of.result old (row + 1) c.place_of.ensures.row (c.place_of.ensures.below ∙ ap (λ n. (row + 1 + 1) % n) down) c.place_of.ensures.there in
-    let made = c.turn_even_row.ensures.turned old
+    let made = c.turn_even.ensures.turned old
     (subst (λ (p : RowPlace). IsRowThere p solid now old) (sym same) (whole_row_there_is solid now old (row + 1) of.sized among.sides sides more))
     (subst (λ (p : RowPlace). HasRow p old.width now old) (sym same) (ready_row solid old row of.sized now so_far more)) in
-    next_turned solid old row of.sized now so_far new c.turn_even_row.ensures.sides (subst (λ (p : RowPlace). IsEvenRowTurned p (once_turned solid old) now new) same made)
+    next_turned solid old row of.sized now so_far new c.turn_even.ensures.sides (subst (λ (p : RowPlace). IsEvenRowTurned p (once_turned solid old) now new) same made)
 
 pub returns-else-row-down-clause-turned : goal.returns-else-row-down-clause-turned
 returns-else-row-down-clause-turned c = λ old of so_far.

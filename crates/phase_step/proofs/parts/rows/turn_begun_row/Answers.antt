@@ -1,7 +1,7 @@
 use Rattle.std.proofs.Common.{◌∙◌}
 use Rattle.phase_step.specs.Solid.{all_of}
 use Rattle.phase_step.proofs.StripSweeps.{seam_kept, begun_turned}
-use Rattle.phase_step.proofs.parts.strip_sweep.turn_begun.Goals as goal
+use Rattle.phase_step.proofs.parts.rows.turn_begun_row.Goals as goal
 
 pub returns-clause-turned : goal.returns-clause-turned
 returns-clause-turned c = λ lattice there inner seam.
