@@ -13,7 +13,6 @@ ghost use Rattle.phase_step.specs.Runs.{parity_at};
 ghost use Rattle.phase_step.specs.WholeRuns.{dynamics, every, CanRun, HasRunWhole};
 
 mod balance;
-mod even_phase;
 mod exchanges;
 pub mod laws;
 mod odd_phase;

@@ -6,10 +6,9 @@ ghost use Rattle.phase_step.specs.SolidBlocks.{HasNoBlocks};
 ghost use Rattle.phase_step.specs.OddPhase.{IsRowIn, place_at, TurnsBegun, TurnsEven};
 ghost use Rattle.phase_step.specs.Solid.{all_of};
 
-use crate::even_phase::turn_even_row;
 use crate::odd_phase::{RowPlace, turn_inner_row, turn_seam};
 use crate::parts::{Part, row_there};
-use crate::steps::{KnownSolid, Solids};
+use crate::steps::{KnownSolid, Solids, turn_even_tile};
 use gas_plane::{Plane, after};
 
 /// Where a row of tiles of a part stands.
@@ -73,6 +72,22 @@ pub fn turn_begun(particles: &mut Plane, known: KnownSolid<'_>, place: RowPlace)
         turn_begun_free(particles, known.solids, place);
     } else {
         turn_begun_among(particles, known.solids, place);
+    }
+}
+
+// The tiles of a row at parity 0, in place: the blocks of a tile lie in it.
+#[inline(always)]
+fn turn_even_row(particles: &mut Plane, known: KnownSolid<'_>, place: RowPlace)
+    requires { IsRowIn place (all_of known.solids.now) particles.old }
+    ensures sides { HasSidesOf particles.new particles.old }
+    ensures turned { TurnsEven place (all_of known.entry.solids.now) particles.old particles.new }
+{
+    let across = particles.across();
+    let first = place.row * across;
+    let there = place.there * across;
+    for column in 0..across {
+        let walled = known.in_tile(there + column);
+        turn_even_tile(walled, particles.tile_mut(first + column));
     }
 }
 

@@ -2,7 +2,7 @@ use Rattle.gas_terms.specs.Cells.{Cells, HasSidesOf}
 use Rattle.gas_terms.specs.Gas.{streamed}
 use Rattle.phase_step.specs.OddPhase.{IsRowThere, HasRow, AreEvensTurned}
 use Rattle.phase_step.specs.Solid.{all_of}
-use Rattle.phase_step.proofs.even_phase.turn_even_row.Given as goal
+use Rattle.phase_step.proofs.parts.rows.turn_even_row.Given as goal
 
 abbrev pub invariant-loop-column : goal.invariant-loop-column
 invariant-loop-column l =

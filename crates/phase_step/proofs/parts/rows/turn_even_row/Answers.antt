@@ -6,7 +6,7 @@ use Rattle.block_rule.specs.TileBlocks.{AreGivenBlocks}
 use Rattle.phase_step.specs.SolidBlocks.{is_walled_in}
 use Rattle.phase_step.proofs.EvenRows.{within_there, even_before, even_next, even_row}
 use Rattle.phase_step.specs.Solid.{all_of}
-use Rattle.phase_step.proofs.even_phase.turn_even_row.Goals as goal
+use Rattle.phase_step.proofs.parts.rows.turn_even_row.Goals as goal
 
 pub overflow_mul-there : goal.overflow_mul-there
 overflow_mul-there c =
