@@ -15,11 +15,12 @@ use block_rule::{
 use gas_plane::{Plane, Tile, Turner};
 
 /// Where a row of tiles stands: its number, that of the row below, and the number of the lattice's row of tiles that it is.
+// By these types the compiler knows that a tile's number fits 32 bits, and takes no sum anew for each tile.
 #[derive(Clone, Copy)]
 pub struct RowPlace {
-    pub row: u32,
-    pub below: u32,
-    pub there: u32,
+    pub row: u16,
+    pub below: u16,
+    pub there: u16,
 }
 
 /// Turns the tiles of a row one after another. It has the walled blocks of the next tile, and what the one before carries on.
@@ -91,8 +92,8 @@ pub fn turn_inner_row(particles: &mut Plane, known: KnownSolid<'_>, place: RowPl
         IsInnerRowTurned place (streamed 1 lattice solid) particles.old particles.new }
 {
     let across = particles.across();
-    let row = place.row;
-    let there = place.there * across;
+    let row = place.row as u32;
+    let there = place.there as u32 * across;
     let first = *particles.tile(row * across);
     let mut turner = RowTurner {
         walled: None,
@@ -176,8 +177,9 @@ pub fn turn_seam(particles: &mut Plane, known: KnownSolid<'_>, place: RowPlace)
         IsSeamRowTurned place (streamed 1 lattice solid) particles.old particles.new }
 {
     let across = particles.across();
-    let RowPlace { row, below, there } = place;
-    let there = there * across;
+    let row = place.row as u32;
+    let below = place.below as u32;
+    let there = place.there as u32 * across;
     let last = across - 1;
     let first = *particles.tile(row * across);
     let under = *particles.tile(below * across);

@@ -18,9 +18,9 @@ pub fn place_of(part: Part, row: u32, down: u32) -> RowPlace
     ensures { result ≡ place_at part down row }
 {
     RowPlace {
-        row,
-        below: after(row, down),
-        there: row_there(part, row),
+        row: row as u16,
+        below: after(row, down) as u16,
+        there: row_there(part, row) as u16,
     }
 }
 
@@ -83,8 +83,8 @@ fn turn_even_row(particles: &mut Plane, known: KnownSolid<'_>, place: RowPlace)
     ensures turned { TurnsEven place (all_of known.entry.solids.now) particles.old particles.new }
 {
     let across = particles.across();
-    let first = place.row * across;
-    let there = place.there * across;
+    let first = place.row as u32 * across;
+    let there = place.there as u32 * across;
     for column in 0..across {
         let walled = known.in_tile(there + column);
         turn_even_tile(walled, particles.tile_mut(first + column));

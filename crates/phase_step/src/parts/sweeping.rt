@@ -23,9 +23,9 @@ fn place_of(row: u32, down: u32) -> RowPlace
     ensures there { result.there ≡ row }
 {
     RowPlace {
-        row,
-        below: after(row, down),
-        there: row,
+        row: row as u16,
+        below: after(row, down) as u16,
+        there: row as u16,
     }
 }
 
