@@ -170,6 +170,8 @@ fn exchange_of_a_tile(rt: HostRuntime) {
     want.join(&Tile::rect(0, 1, 2, 1));
     for exchange in [shift(&rt), shift(&rt).copy()] {
         expect_that(&rt, !exchange.is_still());
+        expect_that(&rt, !exchange.keeps(0, 0, &old));
+        expect_that(&rt, exchange.keeps(64, 0, &old));
         let mut tile = old;
         let change = exchange.on_tile(0, 0, &mut tile);
         expect_that(&rt, same_cells(&tile, &want));
@@ -180,8 +182,6 @@ fn exchange_of_a_tile(rt: HostRuntime) {
         expect_that(&rt, same_cells(&tile, &want));
         expect_same(&rt, change.gained, [0; 4]);
         expect_same(&rt, change.lost, [0; 4]);
-        expect_that(&rt, exchange.meets(0, 0));
-        expect_that(&rt, !exchange.meets(64, 0));
     }
 }
 
@@ -203,10 +203,12 @@ fn exchange_of_a_whole_tile(rt: HostRuntime) {
     ];
     for (exchange, want, gained, lost) in cases {
         let mut tile = Tile::rect(0, 0, 3, 2);
+        expect_that(&rt, !exchange.keeps(0, 0, &tile));
         let change = exchange.on_tile(0, 0, &mut tile);
         expect_that(&rt, same_cells(&tile, &want));
         expect_same(&rt, change.gained, gained);
         expect_same(&rt, change.lost, lost);
+        expect_that(&rt, exchange.keeps(0, 0, &tile));
     }
 }
 
@@ -214,7 +216,7 @@ fn exchange_of_a_whole_tile(rt: HostRuntime) {
 fn exchange_without_ports_is_still(rt: HostRuntime) {
     let none = Exchange::none();
     expect_that(&rt, none.is_still());
-    expect_that(&rt, !none.meets(0, 0));
+    expect_that(&rt, none.keeps(0, 0, &Tile::rect(0, 0, 2, 2)));
 }
 
 #[test]

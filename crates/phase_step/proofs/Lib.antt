@@ -30,3 +30,4 @@ pub mod RowTiles
 pub mod RowWindows
 pub mod InnerRows
 pub mod SeamRows
+pub mod WholeTiles

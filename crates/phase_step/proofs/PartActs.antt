@@ -7,7 +7,7 @@ use Rattle.gas_terms.specs.Cells.{Cells, has, extent, tile_count, tile_rectangle
 use Rattle.gas_terms.proofs.Cells.{has-cells_where}
 use Rattle.gas_plane.specs.Planes.{IsLattice, IsTileFrom}
 use Rattle.gas_plane.proofs.Places.{wide, high}
-use Rattle.phase_step.specs.Actions.{Leaves, IsLeftOf, IsTileCorner, IsStill, KeepsTile, acted, unmoved, movements}
+use Rattle.phase_step.specs.Actions.{Leaves, IsLeftOf, IsTileCorner, IsStill, acted, unmoved, movements}
 use Rattle.phase_step.specs.Counts.{AreTileCounts, moved_by_counts}
 use Rattle.phase_step.specs.Parts.{own_moves, IsPartOf}
 use Rattle.phase_step.specs.TileRuns.{tile_moves, tiles_move}
@@ -16,7 +16,7 @@ use Rattle.phase_step.specs.declared.sums.cell_counts.CellCounts.{CellCounts}
 use Rattle.phase_step.proofs.Amounts.{sum_none}
 use Rattle.phase_step.proofs.FlowSums.{movements_add}
 use Rattle.phase_step.proofs.OwnTiles.{own_within}
-use Rattle.phase_step.proofs.ActedTiles.{cell_within, still_acts}
+use Rattle.phase_step.proofs.ActedTiles.{Stays, cell_within, still_acts}
 use Rattle.phase_step.proofs.TileChanges.{tile_moved, stays_unmoved}
 
 -- A tile of the lattice: what an action leaves of it,
@@ -38,17 +38,21 @@ moves_there tick leaves lattice i change old new is within from left gained lost
     tile_moved tick leaves lattice i change old new r is within (record { left = refl; top = refl; wide = refl; high = refl }) gained lost from.cell
     (λ x y h k. left x y h k ∙ ap (leaves (r.x + x) (r.y + y)) (from.cell x y h k))
 
--- and one that stays and moves nothing
-pub kept_there : (leaves : Leaves) (lattice : Cells) (i : ℕ) → IsLattice lattice → i < tile_count lattice → (let r = tile_rectangle lattice i in KeepsTile leaves r.x r.y)
-    → (let r = tile_rectangle lattice i in (x y : ℕ) → x < 64 → y < 64 → has (acted leaves lattice) (r.x + x) (r.y + y) ≡ has lattice (r.x + x) (r.y + y))
-kept_there leaves lattice i is within kept x y h k =
-    let r = tile_rectangle lattice i in
-    let place = cell_within lattice i x y is within h k in
-    has-cells_where lattice.width lattice.height (λ x y. leaves x y (has lattice x y)) (r.x + x) (r.y + y) place.0 place.1 ∙ kept x y _ h k
+-- and one that is left as it is, and moves nothing
+module _ (leaves : Leaves) (lattice : Cells) (i : ℕ) (old : Tile) (is : IsLattice lattice) (within : i < tile_count lattice) (from : (let r = tile_rectangle lattice i in IsTileFrom old lattice r.x r.y)) (left : (let r = tile_rectangle lattice i in IsLeftOf leaves r.x r.y old old)) where
+  as_it_is : Stays leaves lattice i
+  as_it_is x y h k =
+      let r = tile_rectangle lattice i in
+      subst (λ held. leaves (r.x + x) (r.y + y) held ≡ held) (from.cell x y h k) (sym (left x y h k))
 
-pub stays_there : (tick : ℤ) (leaves : Leaves) (lattice : Cells) (i : ℕ) → IsLattice lattice → i < tile_count lattice → (let r = tile_rectangle lattice i in KeepsTile leaves r.x r.y) → unmoved ≡ tile_moves tick lattice (acted leaves lattice) i
-stays_there tick leaves lattice i is within kept =
-    sym (stays_unmoved tick leaves lattice i (tile_rectangle lattice i) is within (record { left = refl; top = refl; wide = refl; high = refl }) (λ x y h k. kept x y _ h k))
+  pub kept_there : (let r = tile_rectangle lattice i in (x y : ℕ) → x < 64 → y < 64 → has (acted leaves lattice) (r.x + x) (r.y + y) ≡ has lattice (r.x + x) (r.y + y))
+  kept_there x y h k =
+      let r = tile_rectangle lattice i in
+      let place = cell_within lattice i x y is within h k in
+      has-cells_where lattice.width lattice.height (λ x y. leaves x y (has lattice x y)) (r.x + x) (r.y + y) place.0 place.1 ∙ as_it_is x y h k
+
+  pub stays_there : (tick : ℤ) → unmoved ≡ tile_moves tick lattice (acted leaves lattice) i
+  stays_there tick = sym (stays_unmoved tick leaves lattice i (tile_rectangle lattice i) is within (record { left = refl; top = refl; wide = refl; high = refl }) as_it_is)
 
 -- by its number
 pub corner_at : (lattice : Cells) (across i j : ℕ) → IsLattice lattice → i < tile_count lattice → across ≡ lattice.width / 64 → j ≡ i → IsTileCorner (j % across * 64) (j / across * 64)
@@ -66,9 +70,6 @@ corner_at lattice across i j is within e f =
 
 pub left_at : (leaves : Leaves) (lattice : Cells) (across i j : ℕ) (old new : Tile) → across ≡ lattice.width / 64 → j ≡ i → IsLeftOf leaves (j % across * 64) (j / across * 64) old new → (let r = tile_rectangle lattice i in IsLeftOf leaves r.x r.y old new)
 left_at leaves lattice across i j old new e f left = grind (arith)
-
-pub kept_at : (leaves : Leaves) (lattice : Cells) (across i j : ℕ) → across ≡ lattice.width / 64 → j ≡ i → KeepsTile leaves (j % across * 64) (j / across * 64) → (let r = tile_rectangle lattice i in KeepsTile leaves r.x r.y)
-kept_at leaves lattice across i j e f kept = grind (arith)
 
 -- an action that is still leaves the lattice as it is
 pub still_rows : (leaves : Leaves) (part : Part) (cells lattice : Cells) (k : ℕ) → IsStill leaves → IsPartOf part cells lattice k → IsPartOf part cells (acted leaves lattice) k

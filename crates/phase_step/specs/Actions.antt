@@ -24,10 +24,6 @@ last_phase = 65535
 abbrev pub IsStill : Leaves → Type 0
 IsStill leaves = (x y : ℕ) (held : Bool) → leaves x y held ≡ held
 
--- it leaves each cell of the tile that begins at the place (left, top) as it is
-abbrev pub KeepsTile : Leaves → ℕ → ℕ → Type 0
-KeepsTile leaves left top = (x y : ℕ) (held : Bool) → x < 64 → y < 64 → leaves (left + x) (top + y) held ≡ held
-
 -- a place where a tile of a lattice begins
 pub record IsTileCorner (left top : ℕ) : Type 0 where
   pub column : left % 64 ≡ 0

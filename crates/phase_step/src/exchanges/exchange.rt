@@ -4,12 +4,12 @@ ghost use Rattle.std.specs.Prelude.{◌↔◌, ◌≡◌, ℕ, ◌<◌, ◌≤�
 ghost use Rattle.bit_tile.specs.Tile.{HasCells};
 ghost use Rattle.bit_tile.specs.Tile as in_tile;
 ghost use Rattle.gas_terms.specs.Cells.{most_side};
-ghost use Rattle.phase_step.specs.Actions.{KeepsTile, IsTileCorner, IsLeftOf};
+ghost use Rattle.phase_step.specs.Actions.{IsTileCorner, IsLeftOf};
 ghost use Rattle.phase_step.specs.Counts.{AreTileCounts};
 ghost use Rattle.phase_step.specs.Exchanges.{leaves_of, nowhere, HasAllOf, HasTilesOf};
 
 use crate::exchanges::PortArray;
-use crate::exchanges::set_cells::set_areas;
+use crate::exchanges::set_cells::{is_settled, set_areas};
 use crate::sums::CellCounts;
 use gas_plane::Tile;
 use gas_terms::{Rect, Size};
@@ -72,13 +72,22 @@ impl Exchange {
         self.drains.len() == 0 && self.sources.len() == 0
     }
 
-    /// False only if all cells of the tile that begins at (left, top) stay.
+    /// True only if it leaves the tile that begins at (left, top) as it is.
     #[inline]
-    pub fn meets(&self, left: u32, top: u32) -> bool
+    pub fn keeps(&self, left: u32, top: u32, tile: &Tile) -> bool
         requires { IsTileCorner left top }
-        ensures { result ≡ false → KeepsTile (leaves_of self.now) left top }
+        ensures { IsTrue result → IsLeftOf (leaves_of self.now) left top tile.now tile.now }
     {
-        self.met.get(left / 64, top / 64)
+        if !self.met.get(left / 64, top / 64) {
+            return true;
+        }
+        is_settled(
+            tile,
+            self.drains.as_slice(),
+            self.sources.as_slice(),
+            left,
+            top,
+        )
     }
 
     /// Acts on the tile that begins at (left, top). Returns how many cells came and went.

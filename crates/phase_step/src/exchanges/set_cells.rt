@@ -4,7 +4,7 @@ ghost use Rattle.std.specs.Prelude.{◌≡◌, ℕ, ◌+◌, ◌-◌, ◌<◌, �
 ghost use Rattle.bit_tile.specs.Tile.{HasCells, cell_changes};
 ghost use Rattle.bit_tile.specs.Tile as in_tile;
 ghost use Rattle.phase_step.specs.Counts.{AreTileCounts};
-ghost use Rattle.phase_step.specs.Exchanges.{is_in_any, is_set};
+ghost use Rattle.phase_step.specs.Exchanges.{is_in_any, is_left, is_set};
 
 use gas_plane::{Tile, add_counts, is_apart, is_covered, set_part};
 use gas_terms::Rect;
@@ -95,6 +95,33 @@ fn are_apart(areas: &[Rect], left: u32, top: u32) -> bool
         }
     }
     true
+}
+
+// Whether a tile has all cells, or none. It looks at all words, since the compiler then makes vectors of them.
+#[inline(always)]
+fn is_all(tile: &Tile, held: bool) -> bool
+    ensures { IsTrue result → HasCells tile.now (λ _ _. held) }
+{
+    let word = if held { u32::MAX } else { 0 };
+    let mut others = 0;
+    for j in 0..32usize {
+        let even = (tile.even_even[j] ^ word) | (tile.odd_even[j] ^ word);
+        let odd = (tile.even_odd[j] ^ word) | (tile.odd_odd[j] ^ word);
+        others |= even | odd;
+    }
+    others == 0
+}
+
+/// True only if the tile that begins at (left, top) stays as it is when drains empty their cells and sources then fill theirs: one
+/// source has all of it and it is full, or one drain and it is empty. So is the middle of a large port after its first step.
+pub fn is_settled(tile: &Tile, drains: &[Rect], sources: &[Rect], left: u32, top: u32) -> bool
+    ensures { IsTrue result → HasCells tile.now (λ x y.
+        is_left (in_tile.has tile.now x y) drains.now sources.now (left + x) (top + y)) }
+{
+    if one_covers(sources, left, top) {
+        return is_all(tile, true);
+    }
+    one_covers(drains, left, top) && are_apart(sources, left, top) && is_all(tile, false)
 }
 
 // Fills or empties the cells that rectangles have of the tile, one rectangle after another. Returns how many change, by their

@@ -36,7 +36,7 @@ fn act_on_part(particles: &mut Plane, exchange: &Exchange, part: Part, parity: u
         let there = own.there + (i - own.first);
         let left = there % across * 64;
         let top = there / across * 64;
-        if !exchange.meets(left, top) {
+        if exchange.keeps(left, top, particles.tile(i)) {
             continue;
         }
         let here = exchange

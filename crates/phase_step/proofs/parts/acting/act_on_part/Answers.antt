@@ -1,8 +1,8 @@
-use Rattle.std.proofs.Common.{◌≡◌, ◌+◌, ◌-◌, ◌*◌, ◌/◌, ◌%◌, ◌<◌, ◌∙◌, pos, refl, sym, ap, subst, arith}
+use Rattle.std.proofs.Common.{◌≡◌, ℕ, ◌+◌, ◌-◌, ◌*◌, ◌/◌, ◌%◌, ◌<◌, ◌∙◌, pos, refl, sym, ap, subst, arith}
 use Rattle.gas_terms.specs.Cells.{Cells, tile_count, tile_rectangle}
 use Rattle.gas_plane.specs.Planes.{IsLattice, IsTileFrom, tile_of}
 use Rattle.gas_plane.proofs.PlaneCounts.{few_tiles}
-use Rattle.phase_step.specs.Actions.{IsLeftOf, IsTileCorner, acted, movements}
+use Rattle.phase_step.specs.Actions.{Leaves, IsLeftOf, IsTileCorner, acted, movements}
 use Rattle.phase_step.specs.Exchanges.{leaves_of}
 use Rattle.phase_step.specs.Parts.{own_rows, tile_in, IsOwn, IsPartOf}
 use Rattle.phase_step.specs.TileRuns.{tile_moves, tiles_move}
@@ -11,10 +11,10 @@ use Rattle.phase_step.proofs.Exchanging.{nowhere_is_still}
 use Rattle.phase_step.proofs.FlowSums.{movements_add, IsMovedOf, moved_fits}
 use Rattle.phase_step.proofs.MadeCells.{all_acted, none_before, none_made, own_before, tile_before, tile_made, tile_stays}
 use Rattle.phase_step.proofs.OwnTiles.{lattice_is, own_cells, own_number, there_is, own_within_there}
-use Rattle.phase_step.proofs.PartActs.{corner_at, kept_at, kept_there, left_at, left_there, moves_there, stays_there, still_rows, still_own}
+use Rattle.phase_step.proofs.PartActs.{corner_at, kept_there, left_at, left_there, moves_there, stays_there, still_rows, still_own}
 use Rattle.phase_step.proofs.TileFlows.{tile_moves_few, tiles_move_few}
 use Rattle.phase_step.proofs.parts.acting.act_on_part.Goals as goal
-use Rattle.phase_step.proofs.parts.acting.act_on_part.Goals.{After-moved-here, In-loop-i}
+use Rattle.phase_step.proofs.parts.acting.act_on_part.Goals.{After-moved-here, In-loop-i, Then-keeps}
 
 pub returns-then-is_still-clause-rows : goal.returns-then-is_still-clause-rows
 returns-then-is_still-clause-rows c = λ lattice is.
@@ -47,37 +47,57 @@ corner c =
     corner_at h.lattice c.across-across.result _ _ (lattice_is c.args.part cells h.lattice 64 is) (own_within_there c.args.part cells h.lattice i t.ensures.lattice.sized is.placed (t.ensures.own.each i c.loop-i.invariant.from c.loop-i-test.true))
     (c.across-across.ensures.across ∙ ap (λ w. w / 64) is.placed.wide) (there_is c.args.part cells h.lattice i t.result.first t.result.there is.placed t.ensures.own.first t.ensures.own.there)
 
-pub meets-requires : goal.meets-requires
-meets-requires c = corner (goal.at.meets-requires c).In-loop-i
+pub keeps-requires : goal.keeps-requires
+keeps-requires c = corner (goal.at.keeps-requires c).In-loop-i
 
 pub on_tile-requires : goal.on_tile-requires
 on_tile-requires c = corner (goal.at.on_tile-requires c).In-loop-i
 
--- a tile that no rectangle meets stays
-pub loop-i-preserved-then-not-meets : goal.loop-i-preserved-then-not-meets
-loop-i-preserved-then-not-meets c =
+-- a tile that is left as it is
+module _ (c : Then-keeps) (lattice : Cells) (is : IsPartOf c.args.part c.args.particles.now lattice 64) where
+  abbrev leaves_it : Leaves
+  leaves_it = leaves_of c.args.exchange.now
+
+  abbrev number : ℕ
+  number = tile_in c.args.part (lattice.width / 64) c.loop-i.i
+
+  its_own : IsOwn c.args.part c.args.particles.now c.loop-i.i
+  its_own = c.own_tiles-own.ensures.own.each c.loop-i.i c.loop-i.invariant.from c.loop-i-test.true
+
+  is_whole : IsLattice lattice
+  is_whole = lattice_is c.args.part c.args.particles.now lattice 64 is
+
+  is_below : number < tile_count lattice
+  is_below = own_within_there c.args.part c.args.particles.now lattice c.loop-i.i c.own_tiles-own.ensures.lattice.sized is.placed its_own
+
+  is_from : (let r = tile_rectangle lattice number in IsTileFrom c.tile.result.now lattice r.x r.y)
+  is_from =
+      own_cells c.args.part c.args.particles.now lattice c.loop-i.i c.tile.result.now c.own_tiles-own.ensures.lattice.sized is its_own
+      (tile_before c.args.part (acted leaves_it lattice) c.args.particles.now c.loop-i.particles c.loop-i.i 64 c.tile.result.now c.own_tiles-own.ensures.lattice its_own (c.loop-i.invariant.made lattice is) c.tile.ensures)
+
+  is_left : (let r = tile_rectangle lattice number in IsLeftOf leaves_it r.x r.y c.tile.result.now c.tile.result.now)
+  is_left = left_at leaves_it lattice c.across-across.result _ _ c.tile.result.now c.tile.result.now (c.across-across.ensures.across ∙ ap (λ w. w / 64) is.placed.wide)
+      (there_is c.args.part c.args.particles.now lattice c.loop-i.i c.own_tiles-own.result.first c.own_tiles-own.result.there is.placed c.own_tiles-own.ensures.own.first c.own_tiles-own.ensures.own.there) (c.keeps.ensures c.if-keeps.true)
+
+pub loop-i-preserved-then-keeps : goal.loop-i-preserved-then-keeps
+loop-i-preserved-then-keeps c =
     let cells = c.args.particles.now in
     let part = c.args.part in
     let i = c.loop-i.i in
     let leaves = leaves_of c.args.exchange.now in
-    let tick = pos c.args.parity in
     let t = c.own_tiles-own in
     let low = c.loop-i.invariant.from in
-    let own = t.ensures.own.each i low c.loop-i-test.true in
     record {
       from = omega (arith, low);
       sides = c.loop-i.invariant.sides;
       made = λ lattice is.
-          let j = tile_in part (lattice.width / 64) i in
-          let kept = kept_at leaves lattice c.across-across.result j _ (c.across-across.ensures.across ∙ ap (λ w. w / 64) is.placed.wide) (there_is part cells lattice i t.result.first t.result.there is.placed t.ensures.own.first t.ensures.own.there) (c.meets.ensures c.if-not-meets.true) in
-          tile_stays part cells lattice (acted leaves lattice) c.loop-i.particles i t.ensures.lattice.sized is own (c.loop-i.invariant.made lattice is) (kept_there leaves lattice j (lattice_is part cells lattice 64 is) (own_within_there part cells lattice i t.ensures.lattice.sized is.placed own) kept);
+          tile_stays part cells lattice (acted leaves lattice) c.loop-i.particles i t.ensures.lattice.sized is (its_own c lattice is) (c.loop-i.invariant.made lattice is)
+          (kept_there leaves lattice (number c lattice is) c.tile.result.now (is_whole c lattice is) (is_below c lattice is) (is_from c lattice is) (is_left c lattice is));
       moved = λ lattice is.
-          let j = tile_in part (lattice.width / 64) i in
-          let kept = kept_at leaves lattice c.across-across.result j _ (c.across-across.ensures.across ∙ ap (λ w. w / 64) is.placed.wide) (there_is part cells lattice i t.result.first t.result.there is.placed t.ensures.own.first t.ensures.own.there) (c.meets.ensures c.if-not-meets.true) in
           movements_add.right c.loop-i.moved
           ∙ sum_next movements _ t.result.first i c.loop-i.moved _ low (c.loop-i.invariant.moved lattice is)
-          (stays_there tick leaves lattice j (lattice_is part cells lattice 64 is) (own_within_there part cells lattice i t.ensures.lattice.sized is.placed own) kept
-          ∙ ap (tile_moves tick lattice (acted leaves lattice)) (own_number part cells lattice i t.result.first is.placed t.ensures.own.first));
+          (stays_there leaves lattice (number c lattice is) c.tile.result.now (is_whole c lattice is) (is_below c lattice is) (is_from c lattice is) (is_left c lattice is) (pos c.args.parity)
+          ∙ ap (tile_moves (pos c.args.parity) lattice (acted leaves lattice)) (own_number part cells lattice i t.result.first is.placed t.ensures.own.first));
     }
 
 own : (c : After-moved-here) → IsOwn c.args.part c.args.particles.now c.loop-i.i
