@@ -31,3 +31,4 @@ pub mod RowWindows
 pub mod InnerRows
 pub mod SeamRows
 pub mod WholeTiles
+pub mod CountSums

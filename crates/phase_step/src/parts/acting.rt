@@ -11,6 +11,7 @@ ghost use Rattle.phase_step.specs.Parts.{own_moves, IsPartOf, IsPartOfSome};
 
 use crate::exchanges::{Action, Exchange};
 use crate::parts::{Part, own_tiles, whole};
+use crate::sums::CellCounts;
 use gas_plane::Plane;
 use gas_terms::Moved;
 
@@ -26,10 +27,10 @@ fn act_on_part(particles: &mut Plane, exchange: &Exchange, part: Part, parity: u
         result ≡ own_moves part parity particles.old lattice
         (acted (leaves_of exchange.now) lattice) }
 {
-    let mut moved = Moved::ZERO;
     if exchange.is_still() {
-        return moved;
+        return Moved::ZERO;
     }
+    let mut counts = CellCounts::ZERO;
     let across = particles.across();
     let own = own_tiles(part, particles);
     for i in own.first..own.end {
@@ -39,12 +40,11 @@ fn act_on_part(particles: &mut Plane, exchange: &Exchange, part: Part, parity: u
         if exchange.keeps(left, top, particles.tile(i)) {
             continue;
         }
-        let here = exchange
-            .on_tile(left, top, particles.tile_mut(i))
-            .moved(parity);
-        moved = moved.plus(here);
+        let here = exchange.on_tile(left, top, particles.tile_mut(i));
+        let sum = counts.plus(here);
+        counts = sum;
     }
-    moved
+    counts.moved(parity)
 }
 
 /// What the action does to a part's own tiles after phase k, at a tick of this parity. Returns what

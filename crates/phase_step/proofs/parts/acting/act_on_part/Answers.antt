@@ -1,20 +1,21 @@
-use Rattle.std.proofs.Common.{◌≡◌, ℕ, ◌+◌, ◌-◌, ◌*◌, ◌/◌, ◌%◌, ◌<◌, ◌∙◌, pos, refl, sym, ap, subst, arith}
+use Rattle.std.proofs.Common.{◌≡◌, ℕ, ◌+◌, ◌-◌, ◌*◌, ◌/◌, ◌%◌, ◌<◌, ◌∙◌, pos, refl, ap, arith}
 use Rattle.gas_terms.specs.Cells.{Cells, tile_count, tile_rectangle}
 use Rattle.gas_plane.specs.Planes.{IsLattice, IsTileFrom, tile_of}
 use Rattle.gas_plane.proofs.PlaneCounts.{few_tiles}
 use Rattle.phase_step.specs.Actions.{Leaves, IsLeftOf, IsTileCorner, acted, movements}
+use Rattle.phase_step.specs.Counts.{moved_by_counts}
 use Rattle.phase_step.specs.Exchanges.{leaves_of}
 use Rattle.phase_step.specs.Parts.{own_rows, tile_in, IsOwn, IsPartOf}
 use Rattle.phase_step.specs.TileRuns.{tile_moves, tiles_move}
 use Rattle.phase_step.proofs.Amounts.{sum_next}
 use Rattle.phase_step.proofs.Exchanging.{nowhere_is_still}
-use Rattle.phase_step.proofs.FlowSums.{movements_add, IsMovedOf, moved_fits}
+use Rattle.phase_step.proofs.CountSums.{few_together, moved_together, none_few, zeros_move_nothing}
+use Rattle.phase_step.proofs.FlowSums.{movements_add}
 use Rattle.phase_step.proofs.MadeCells.{all_acted, none_before, none_made, own_before, tile_before, tile_made, tile_stays}
 use Rattle.phase_step.proofs.OwnTiles.{lattice_is, own_cells, own_number, there_is, own_within_there}
 use Rattle.phase_step.proofs.PartActs.{corner_at, kept_there, left_at, left_there, moves_there, stays_there, still_rows, still_own}
-use Rattle.phase_step.proofs.TileFlows.{tile_moves_few, tiles_move_few}
 use Rattle.phase_step.proofs.parts.acting.act_on_part.Goals as goal
-use Rattle.phase_step.proofs.parts.acting.act_on_part.Goals.{After-moved-here, In-loop-i, Then-keeps}
+use Rattle.phase_step.proofs.parts.acting.act_on_part.Goals.{After-on_tile-here, In-loop-i, Then-keeps}
 
 pub returns-then-is_still-clause-rows : goal.returns-then-is_still-clause-rows
 returns-then-is_still-clause-rows c = λ lattice is.
@@ -34,7 +35,9 @@ loop-i-init c =
       from = omega arith;
       sides = record { wide = refl; high = refl };
       made = λ lattice is. none_made (tile_of old) first 64 c.args.part (acted leaves lattice) old (none_before c.args.part old first t.ensures.lattice.sized t.ensures.own.first);
-      moved = λ lattice is. let e : 0 ≡ first - first = omega arith in ap (tiles_move (pos c.args.parity) lattice (acted leaves lattice) (c.args.part.first * (lattice.width / 64))) e;
+      gained = none_few _;
+      lost = none_few _;
+      moved = λ lattice is. zeros_move_nothing (pos c.args.parity) ∙ (let e : 0 ≡ first - first = omega arith in ap (tiles_move (pos c.args.parity) lattice (acted leaves lattice) (c.args.part.first * (lattice.width / 64))) e);
     }
 
 corner : (c : In-loop-i) → (let j = c.own_tiles-own.result.there + (c.loop-i.i - c.own_tiles-own.result.first) in IsTileCorner (j % c.across-across.result * 64) (j / c.across-across.result * 64))
@@ -50,8 +53,8 @@ corner c =
 pub keeps-requires : goal.keeps-requires
 keeps-requires c = corner (goal.at.keeps-requires c).In-loop-i
 
-pub on_tile-requires : goal.on_tile-requires
-on_tile-requires c = corner (goal.at.on_tile-requires c).In-loop-i
+pub on_tile-here-requires : goal.on_tile-here-requires
+on_tile-here-requires c = corner (goal.at.on_tile-here-requires c).In-loop-i
 
 -- a tile that is left as it is
 module _ (c : Then-keeps) (lattice : Cells) (is : IsPartOf c.args.part c.args.particles.now lattice 64) where
@@ -93,18 +96,20 @@ loop-i-preserved-then-keeps c =
       made = λ lattice is.
           tile_stays part cells lattice (acted leaves lattice) c.loop-i.particles i t.ensures.lattice.sized is (its_own c lattice is) (c.loop-i.invariant.made lattice is)
           (kept_there leaves lattice (number c lattice is) c.tile.result.now (is_whole c lattice is) (is_below c lattice is) (is_from c lattice is) (is_left c lattice is));
+      gained = λ k h. let few = c.loop-i.invariant.gained k h in omega (arith, few, low);
+      lost = λ k h. let few = c.loop-i.invariant.lost k h in omega (arith, few, low);
       moved = λ lattice is.
-          movements_add.right c.loop-i.moved
-          ∙ sum_next movements _ t.result.first i c.loop-i.moved _ low (c.loop-i.invariant.moved lattice is)
+          movements_add.right _
+          ∙ sum_next movements _ t.result.first i (moved_by_counts (pos c.args.parity) c.loop-i.counts) _ low (c.loop-i.invariant.moved lattice is)
           (stays_there leaves lattice (number c lattice is) c.tile.result.now (is_whole c lattice is) (is_below c lattice is) (is_from c lattice is) (is_left c lattice is) (pos c.args.parity)
           ∙ ap (tile_moves (pos c.args.parity) lattice (acted leaves lattice)) (own_number part cells lattice i t.result.first is.placed t.ensures.own.first));
     }
 
-own : (c : After-moved-here) → IsOwn c.args.part c.args.particles.now c.loop-i.i
+own : (c : After-on_tile-here) → IsOwn c.args.part c.args.particles.now c.loop-i.i
 own c = c.own_tiles-own.ensures.own.each c.loop-i.i c.loop-i.invariant.from c.loop-i-test.true
 
 -- what an own tile was, becomes and moves
-module _ (c : After-moved-here) (lattice : Cells) (is : IsPartOf c.args.part c.args.particles.now lattice 64) where
+module _ (c : After-on_tile-here) (lattice : Cells) (is : IsPartOf c.args.part c.args.particles.now lattice 64) where
   whole : IsLattice lattice
   whole = lattice_is c.args.part c.args.particles.now lattice 64 is
 
@@ -117,32 +122,30 @@ module _ (c : After-moved-here) (lattice : Cells) (is : IsPartOf c.args.part c.a
       own_cells c.args.part c.args.particles.now lattice c.loop-i.i c.tile_mut.result.now c.own_tiles-own.ensures.lattice.sized is (own c)
       (tile_before c.args.part (acted leaves lattice) c.args.particles.now c.loop-i.particles c.loop-i.i 64 c.tile_mut.result.now c.own_tiles-own.ensures.lattice (own c) (c.loop-i.invariant.made lattice is) c.tile_mut.ensures.tile)
 
-  left : (let r = tile_rectangle lattice (tile_in c.args.part (lattice.width / 64) c.loop-i.i) in IsLeftOf (leaves_of c.args.exchange.now) r.x r.y c.tile_mut.result.now c.on_tile.new.tile)
-  left = left_at (leaves_of c.args.exchange.now) lattice c.across-across.result _ _ c.tile_mut.result.now c.on_tile.new.tile (c.across-across.ensures.across ∙ ap (λ w. w / 64) is.placed.wide)
-      (there_is c.args.part c.args.particles.now lattice c.loop-i.i c.own_tiles-own.result.first c.own_tiles-own.result.there is.placed c.own_tiles-own.ensures.own.first c.own_tiles-own.ensures.own.there) c.on_tile.ensures.left
+  left : (let r = tile_rectangle lattice (tile_in c.args.part (lattice.width / 64) c.loop-i.i) in IsLeftOf (leaves_of c.args.exchange.now) r.x r.y c.tile_mut.result.now c.on_tile-here.new.tile)
+  left = left_at (leaves_of c.args.exchange.now) lattice c.across-across.result _ _ c.tile_mut.result.now c.on_tile-here.new.tile (c.across-across.ensures.across ∙ ap (λ w. w / 64) is.placed.wide)
+      (there_is c.args.part c.args.particles.now lattice c.loop-i.i c.own_tiles-own.result.first c.own_tiles-own.result.there is.placed c.own_tiles-own.ensures.own.first c.own_tiles-own.ensures.own.there) c.on_tile-here.ensures.left
 
-  is_moved : c.moved-here.result ≡ tile_moves (pos c.args.parity) lattice (acted (leaves_of c.args.exchange.now) lattice) (c.args.part.first * (lattice.width / 64) + (c.loop-i.i - c.own_tiles-own.result.first))
+  is_moved : moved_by_counts (pos c.args.parity) c.on_tile-here.result ≡ tile_moves (pos c.args.parity) lattice (acted (leaves_of c.args.exchange.now) lattice) (c.args.part.first * (lattice.width / 64) + (c.loop-i.i - c.own_tiles-own.result.first))
   is_moved =
       let leaves = leaves_of c.args.exchange.now in
       let j = tile_in c.args.part (lattice.width / 64) c.loop-i.i in
-      c.moved-here.ensures (pos c.args.parity) (let s = c.requires.parity in omega (arith, s))
-      ∙ (moves_there (pos c.args.parity) leaves lattice j c.on_tile.result c.tile_mut.result.now c.on_tile.new.tile whole below from left c.on_tile.ensures.gained c.on_tile.ensures.lost
-      ∙ ap (tile_moves (pos c.args.parity) lattice (acted leaves lattice)) (own_number c.args.part c.args.particles.now lattice c.loop-i.i c.own_tiles-own.result.first is.placed c.own_tiles-own.ensures.own.first))
+      moves_there (pos c.args.parity) leaves lattice j c.on_tile-here.result c.tile_mut.result.now c.on_tile-here.new.tile whole below from left c.on_tile-here.ensures.gained c.on_tile-here.ensures.lost
+      ∙ ap (tile_moves (pos c.args.parity) lattice (acted leaves lattice)) (own_number c.args.part c.args.particles.now lattice c.loop-i.i c.own_tiles-own.result.first is.placed c.own_tiles-own.ensures.own.first)
 
-pub plus-moved-requires : goal.plus-moved-requires
-plus-moved-requires c =
-    let after = (goal.at.plus-moved-requires c).After-moved-here in
-    let within = (own after).within in
-    let few = few_tiles c.args.particles.now c.loop-i.i c.own_tiles-own.ensures.lattice (omega (arith, within)) in
-    let r = c.requires.some in
-    let tick = pos c.args.parity in
-    let leaves = leaves_of c.args.exchange.now in
-    let n = c.loop-i.i - c.own_tiles-own.result.first in
-    let fits = moved_fits (16384 * n) 16384 c.loop-i.moved c.moved-here.result
-    (subst (IsMovedOf (16384 * n)) (sym (c.loop-i.invariant.moved r.lattice r.is)) (tiles_move_few tick leaves r.lattice (c.args.part.first * (r.lattice.width / 64)) n))
-    (subst (IsMovedOf 16384) (sym (is_moved after r.lattice r.is)) (tile_moves_few tick leaves r.lattice _))
-    (omega (arith, few)) in
-    record { injected = fits.0; drained = fits.1 }
+-- how many tiles there are
+few_own : (c : After-on_tile-here) → c.loop-i.i - c.own_tiles-own.result.first < 4096
+few_own c = let within = (own c).within in let few = few_tiles c.args.particles.now c.loop-i.i c.own_tiles-own.ensures.lattice (omega (arith, within)) in omega (arith, few)
+
+pub plus-sum-requires-clause-gained : goal.plus-sum-requires-clause-gained
+plus-sum-requires-clause-gained c = λ k h.
+    let few = few_own (goal.at.plus-sum-requires-clause-gained c).After-on_tile-here in
+    omega (arith, few, c.loop-i.invariant.gained k h, c.on_tile-here.ensures.gained.few k h)
+
+pub plus-sum-requires-clause-lost : goal.plus-sum-requires-clause-lost
+plus-sum-requires-clause-lost c = λ k h.
+    let few = few_own (goal.at.plus-sum-requires-clause-lost c).After-on_tile-here in
+    omega (arith, few, c.loop-i.invariant.lost k h, c.on_tile-here.ensures.lost.few k h)
 
 pub loop-i-preserved : goal.loop-i-preserved
 loop-i-preserved c =
@@ -150,17 +153,19 @@ loop-i-preserved c =
     let part = c.args.part in
     let i = c.loop-i.i in
     let leaves = leaves_of c.args.exchange.now in
-    let after = (goal.at.loop-i-preserved c).After-moved-here in
+    let after = (goal.at.loop-i-preserved c).After-on_tile-here in
     let low = c.loop-i.invariant.from in
     record {
       from = omega (arith, low);
       sides = record { wide = c.loop-i.invariant.sides.wide; high = c.loop-i.invariant.sides.high };
       made = λ lattice is.
-          tile_made part cells lattice (acted leaves lattice) c.loop-i.particles i c.on_tile.new.tile c.own_tiles-own.ensures.lattice.sized is.placed (own after) (c.loop-i.invariant.made lattice is)
-          (left_there leaves lattice (tile_in part (lattice.width / 64) i) c.tile_mut.result.now c.on_tile.new.tile (whole after lattice is) (below after lattice is) (from after lattice is) (left after lattice is));
+          tile_made part cells lattice (acted leaves lattice) c.loop-i.particles i c.on_tile-here.new.tile c.own_tiles-own.ensures.lattice.sized is.placed (own after) (c.loop-i.invariant.made lattice is)
+          (left_there leaves lattice (tile_in part (lattice.width / 64) i) c.tile_mut.result.now c.on_tile-here.new.tile (whole after lattice is) (below after lattice is) (from after lattice is) (left after lattice is));
+      gained = λ k h. let few = few_together _ _ c.loop-i.counts.gained c.on_tile-here.result.gained c.plus-sum.result.gained c.plus-sum.ensures.gained c.loop-i.invariant.gained c.on_tile-here.ensures.gained.few k h in omega (arith, few, low);
+      lost = λ k h. let few = few_together _ _ c.loop-i.counts.lost c.on_tile-here.result.lost c.plus-sum.result.lost c.plus-sum.ensures.lost c.loop-i.invariant.lost c.on_tile-here.ensures.lost.few k h in omega (arith, few, low);
       moved = λ lattice is.
-          c.plus-moved.ensures
-          ∙ sum_next movements _ c.own_tiles-own.result.first i c.loop-i.moved c.moved-here.result low (c.loop-i.invariant.moved lattice is)
+          moved_together (pos c.args.parity) c.loop-i.counts c.on_tile-here.result c.plus-sum.result c.plus-sum.ensures.gained c.plus-sum.ensures.lost
+          ∙ sum_next movements _ c.own_tiles-own.result.first i (moved_by_counts (pos c.args.parity) c.loop-i.counts) (moved_by_counts (pos c.args.parity) c.on_tile-here.result) low (c.loop-i.invariant.moved lattice is)
           (is_moved after lattice is);
     }
 
@@ -175,5 +180,6 @@ pub returns-clause-moved : goal.returns-clause-moved
 returns-clause-moved c = λ lattice is.
     let t = c.own_tiles-own in
     let n : c.loop-i.i - t.result.first ≡ t.result.end - t.result.first = omega (arith, c.loop-i-test.false, c.loop-i.auto.i-end) in
-    c.loop-i.invariant.moved lattice is
-    ∙ ap (tiles_move (pos c.args.parity) lattice (acted (leaves_of c.args.exchange.now) lattice) (c.args.part.first * (lattice.width / 64))) (n ∙ (t.ensures.own.count ∙ ap (λ w. own_rows c.args.part c.args.particles.now * (w / 64)) is.placed.wide))
+    c.moved.ensures (pos c.args.parity) (let s = c.requires.parity in omega (arith, s))
+    ∙ (c.loop-i.invariant.moved lattice is
+    ∙ ap (tiles_move (pos c.args.parity) lattice (acted (leaves_of c.args.exchange.now) lattice) (c.args.part.first * (lattice.width / 64))) (n ∙ (t.ensures.own.count ∙ ap (λ w. own_rows c.args.part c.args.particles.now * (w / 64)) is.placed.wide)))
