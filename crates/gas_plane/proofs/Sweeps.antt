@@ -1,5 +1,5 @@
 -- Tiles are replaced one after another: what a plane is in between.
-use Rattle.std.proofs.Common.{◌≡◌, ℕ, ◌+◌, ◌*◌, ◌/◌, ◌%◌, ◌<◌, ◌≤◌, ◌==◌, Bool, true, false, nat_lt, if◌then◌else◌, refl, sym, ◌∙◌, ap₂, arith, inl, inr}
+use Rattle.std.proofs.Common.{◌≡◌, ℕ, ◌+◌, ◌*◌, ◌/◌, ◌%◌, ◌<◌, ◌≤◌, ◌==◌, Bool, true, false, nat_lt, if◌then◌else◌, refl, sym, subst, ◌∙◌, ap₂, arith, inl, inr}
 use Rattle.std.proofs.lemmas.Nat.{mul-add-lt, div-mul-add, mod-mul-add, div-add-mod'}
 use Rattle.std.proofs.lemmas.Bool.{cases_eq, cases_lt, eq-eqb, ne_eqb}
 use Rattle.std.proofs.lemmas.Bool.Decides.{nat_tests}
@@ -73,3 +73,9 @@ sweep_is_whole cells test is =
     let d = tile_below cells.height y (high (extent cells) is.sized) q in
     let k : tile_of cells x y < tile_count cells = mul-add-lt (y / 64) (cells.width / 64) (x / 64) (cells.height / 64) d a in
     absurd (omega arith))
+
+-- a lattice in which a tile is replaced is one
+pub lattice_kept : (cells : Cells) (i : ℕ) (t : Tile) → IsLattice cells → (next : Cells) → next ≡ with_tile cells i t → IsLattice next
+lattice_kept cells i t is next e =
+    let new : IsLattice (with_tile cells i t) = record { sized = is.sized; full = full-cells_where cells.width cells.height (λ x y. if tile_of cells x y == i then tile.has t (x % 64) (y % 64) else has cells x y) } in
+    subst IsLattice (sym e) new

@@ -48,8 +48,8 @@ impl Position {
     }
 }
 
-/// A row of a plane's tiles, with the row above and the row below it: the lattice is a torus. Whoever goes along a row looks it up
-/// once.
+/// A row of a plane's tiles, with the row above and the row below it: the lattice is a torus. Whoever goes along a row looks it
+/// up once.
 #[derive(Clone, Copy)]
 pub struct TileRows<'a> {
     pub across: u32,

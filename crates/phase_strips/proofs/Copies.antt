@@ -5,17 +5,11 @@ use Rattle.std.proofs.lemmas.Bool.{eq-eqb, ne_eqb}
 use Rattle.bit_tile.specs.Tile as tile
 use Rattle.bit_tile.specs.declared.Tile.{Tile}
 use Rattle.gas_terms.specs.Cells.{Cells, has, extent, tile_rectangle}
-use Rattle.gas_terms.proofs.Cells.{has-cells_where, full-cells_where}
+use Rattle.gas_terms.proofs.Cells.{has-cells_where}
 use Rattle.gas_plane.specs.Planes.{IsLattice, IsTileFrom, tile_of, with_tile}
 use Rattle.gas_plane.proofs.Places.{wide}
 use Rattle.gas_plane.proofs.Sweeps.{left_of, top_of, cell_across, cell_down}
 use Rattle.gas_plane.proofs.Tilings.{choose_true, choose_false}
-
--- a lattice in which a tile is replaced is one
-pub lattice_kept : (cells : Cells) (i : ℕ) (t : Tile) → IsLattice cells → (next : Cells) → next ≡ with_tile cells i t → IsLattice next
-lattice_kept cells i t is next e =
-    let new : IsLattice (with_tile cells i t) = record { sized = is.sized; full = full-cells_where cells.width cells.height (λ x y. if tile_of cells x y == i then tile.has t (x % 64) (y % 64) else has cells x y) } in
-    subst IsLattice (sym e) new
 
 -- Tile `to` of a set of cells is replaced by tile `from` of another, `i` tiles after rows `to_row` and `from_row` of tiles.
 pub record IsCopied (source now after : Cells) (from_row to_row i : ℕ) (t : Tile) : Type 0 where

@@ -4,7 +4,8 @@ use Rattle.std.proofs.lemmas.Nat.{mul-le}
 use Rattle.gas_terms.specs.Cells.{Cells, extent, tile_count, tile_rectangle}
 use Rattle.gas_plane.specs.Planes.{IsTileFrom, with_tile}
 use Rattle.gas_plane.proofs.Places.{wide, tile_below}
-use Rattle.phase_strips.proofs.Copies.{lattice_kept, IsCopied, copied_here, copied_beside, tile_in_rows, tile_outside}
+use Rattle.gas_plane.proofs.Sweeps.{lattice_kept}
+use Rattle.phase_strips.proofs.Copies.{IsCopied, copied_here, copied_beside, tile_in_rows, tile_outside}
 use Rattle.phase_strips.proofs.runs.strip.copy_rows.Goals as goal
 
 -- tile i of so many rows of tiles is one of the lattice's

@@ -5,7 +5,7 @@ use Rattle.gas_plane.specs.Planes.{with_tile}
 use Rattle.gas_plane.proofs.PlaneCounts.{few_tiles}
 use Rattle.claim_desk.specs.Draws.{times}
 use Rattle.phase_team.specs.Tiles.{numbered_tiles_take}
-use Rattle.phase_strips.proofs.Copies.{lattice_kept}
+use Rattle.gas_plane.proofs.Sweeps.{lattice_kept}
 use Rattle.phase_team.proofs.Places.{sides_kept, write_more}
 use Rattle.phase_team.proofs.Takings.{take_more, more_fits}
 use Rattle.phase_team.proofs.phase.crew.draw_here.Goals as goal

@@ -2,7 +2,7 @@ use Rattle.std.proofs.Common.{rules, ◌<◌, [], length, get_or, map, take, sub
 use Rattle.gas_plane.specs.Planes.{with_tile}
 use Rattle.claim_desk.specs.Draws.{times}
 use Rattle.phase_team.specs.declared.phase.worker.Turned.{Turned}
-use Rattle.phase_strips.proofs.Copies.{lattice_kept}
+use Rattle.gas_plane.proofs.Sweeps.{lattice_kept}
 use Rattle.phase_team.proofs.Places.{sides_kept, write_keeps, write_more, places_more}
 use Rattle.phase_team.proofs.phase.crew.write_out.Goals as goal
 
