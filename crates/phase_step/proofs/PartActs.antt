@@ -1,11 +1,12 @@
 -- An action on a part's own tiles is that on the lattice's.
-use Rattle.std.proofs.Common.{◌≡◌, ℕ, ◌+◌, ◌*◌, ◌/◌, ◌%◌, ◌<◌, ◌≤◌, ◌&&◌, not, ℤ, pos, refl, sym, ap, ◌∙◌, subst, arith}
+use Rattle.std.proofs.Common.{◌≡◌, ℕ, ◌+◌, ◌*◌, ◌/◌, ◌%◌, ◌<◌, ◌≤◌, ◌&&◌, not, ℤ, pos, refl, sym, ap, ap₂, ◌∙◌, subst, arith}
 use Rattle.bit_tile.specs.Tile as tile
 use Rattle.bit_tile.specs.Tile.{HasCells}
 use Rattle.bit_tile.specs.declared.Tile.{Tile}
 use Rattle.gas_terms.specs.Cells.{Cells, has, extent, tile_count, tile_rectangle}
 use Rattle.gas_terms.proofs.Cells.{has-cells_where}
-use Rattle.gas_plane.specs.Planes.{IsLattice, IsTileFrom}
+use Rattle.gas_plane.specs.Planes.{IsLattice, IsPosition, IsTileFrom}
+use Rattle.gas_plane.specs.declared.around.Position.{Position}
 use Rattle.gas_plane.proofs.Places.{wide, high}
 use Rattle.phase_step.specs.Actions.{Leaves, IsLeftOf, IsTileCorner, IsStill, acted, unmoved, movements}
 use Rattle.phase_step.specs.Counts.{AreTileCounts, moved_by_counts}
@@ -55,8 +56,8 @@ module _ (leaves : Leaves) (lattice : Cells) (i : ℕ) (old : Tile) (is : IsLatt
   stays_there tick = sym (stays_unmoved tick leaves lattice i (tile_rectangle lattice i) is within (record { left = refl; top = refl; wide = refl; high = refl }) as_it_is)
 
 -- by its number
-pub corner_at : (lattice : Cells) (across i j : ℕ) → IsLattice lattice → i < tile_count lattice → across ≡ lattice.width / 64 → j ≡ i → IsTileCorner (j % across * 64) (j / across * 64)
-corner_at lattice across i j is within e f =
+pub corner_at : (lattice : Cells) (across i : ℕ) (p : Position) → IsLattice lattice → i < tile_count lattice → across ≡ lattice.width / 64 → p.tile ≡ i → IsPosition across p → IsTileCorner (p.column * 64) (p.row * 64)
+corner_at lattice across i p is within e f at =
     let place = cell_within lattice i 0 0 is within (omega arith) (omega arith) in
     let w = wide (extent lattice) is.sized in
     let h = high (extent lattice) is.sized in
@@ -64,12 +65,15 @@ corner_at lattice across i j is within e f =
     let wf = w.few in
     let ht = h.tiles in
     let hf = h.few in
-    subst (λ a. IsTileCorner (j % a * 64) (j / a * 64)) (sym e)
-    (subst (λ j. IsTileCorner (j % (lattice.width / 64) * 64) (j / (lattice.width / 64) * 64)) (sym f)
-    (record { column = omega arith; row = omega arith; right = omega (arith, place.0, wt, wf); bottom = omega (arith, place.1, ht, hf) }))
+    let c : p.column ≡ i % (lattice.width / 64) = at.column ∙ ap₂ (λ j a. j % a) f e in
+    let r : p.row ≡ i / (lattice.width / 64) = at.row ∙ ap₂ (λ j a. j / a) f e in
+    record { column = omega arith; row = omega arith; right = omega (arith, c, place.0, wt, wf); bottom = omega (arith, r, place.1, ht, hf) }
 
-pub left_at : (leaves : Leaves) (lattice : Cells) (across i j : ℕ) (old new : Tile) → across ≡ lattice.width / 64 → j ≡ i → IsLeftOf leaves (j % across * 64) (j / across * 64) old new → (let r = tile_rectangle lattice i in IsLeftOf leaves r.x r.y old new)
-left_at leaves lattice across i j old new e f left = grind (arith)
+pub left_at : (leaves : Leaves) (lattice : Cells) (across i : ℕ) (p : Position) (old new : Tile) → across ≡ lattice.width / 64 → p.tile ≡ i → IsPosition across p → IsLeftOf leaves (p.column * 64) (p.row * 64) old new → (let r = tile_rectangle lattice i in IsLeftOf leaves r.x r.y old new)
+left_at leaves lattice across i p old new e f at left =
+    let c = at.column in
+    let r = at.row in
+    grind (arith, c, r)
 
 -- an action that is still leaves the lattice as it is
 pub still_rows : (leaves : Leaves) (part : Part) (cells lattice : Cells) (k : ℕ) → IsStill leaves → IsPartOf part cells lattice k → IsPartOf part cells (acted leaves lattice) k

@@ -1,5 +1,5 @@
 -- Rectangles whose cells are emptied, and others whose cells are then filled.
-use Rattle.std.specs.Prelude.{◌≡◌, ℕ, ◌+◌, ◌/◌, ◌<◌, nat_le, nat_lt, Bool, true, not, ◌&&◌, ◌||◌, List, [], get_or}
+use Rattle.std.specs.Prelude.{◌≡◌, ℕ, ◌+◌, ◌*◌, ◌/◌, ◌<◌, nat_le, nat_lt, Bool, true, not, ◌&&◌, ◌||◌, List, [], get_or}
 use Rattle.std.specs.List.{list_any}
 use Rattle.bit_tile.specs.Tile as tile
 use Rattle.bit_tile.specs.declared.Tile.{Tile}
@@ -38,6 +38,14 @@ nowhere = record { drains = []; sources = [] }
 -- what a list of them leaves after each phase: after phase k the one in place k of it, and none after its end
 abbrev pub listed : List Areas → ℕ → Leaves
 listed exchanges k = leaves_of (get_or exchanges k nowhere)
+
+-- whether any of the `len` numbers from `start` on is among the 64 from 64 * k on
+abbrev pub is_met : ℕ → ℕ → ℕ → Bool
+is_met start len k = nat_lt start (64 * (k + 1)) && nat_lt (64 * k) (start + len)
+
+-- whether the rectangle has a cell in the tile in this column and row of tiles
+abbrev pub meets_tile : Rectangle → ℕ → ℕ → Bool
+meets_tile r column row = is_met r.x r.w column && is_met r.y r.h row
 
 -- The set has each tile in which a rectangle has a cell: a cell of the set stands for one of the first 64 by 64 tiles.
 abbrev pub HasTilesOf : Tile → List Rectangle → Type 0

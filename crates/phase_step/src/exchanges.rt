@@ -10,7 +10,7 @@ mod still;
 
 pub use action::Action;
 pub use action_from::ActionFrom;
-pub use exchange::{Exchange, any_area};
+pub use exchange::{Exchange, add_tiles_of, any_area};
 pub use listed::Listed;
 pub use port_array::PortArray;
 pub use still::Still;

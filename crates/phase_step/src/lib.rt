@@ -1,8 +1,8 @@
 //! Steps of a gas. A `Stepper` makes a phase or a run of phases of a plane; `Serial` does it on the calling thread. An
 //! `Action` changes the particles after each phase of a run, as ports do.
 //!
-//! The program steps by `Stepper::run_with`, forward and back. `Stepper::phase`, `turn_tile_at` and `act_on` are there for
-//! callers of the library.
+//! The program steps by `Stepper::run_with`, forward and back. `Stepper::phase`, `turn_tile_at`, `act_on` and `Exchange::new` are
+//! there for callers of the library.
 #![tactic(auto)]
 
 ghost use Rattle.std.specs.Prelude.{◌≡◌, ◌<◌};
@@ -22,7 +22,9 @@ mod sums;
 
 pub use balance::{account_to_count, with_missing_account};
 pub use block_rule::Counted;
-pub use exchanges::{Action, ActionFrom, Exchange, Listed, PortArray, Still, any_area};
+pub use exchanges::{
+    Action, ActionFrom, Exchange, Listed, PortArray, Still, add_tiles_of, any_area,
+};
 use gas_plane::Plane;
 use gas_terms::Took;
 pub use parts::{Part, act_on, run_part, run_whole, turn_strip};

@@ -1,12 +1,11 @@
 //! Exchanges: rectangles that are emptied, and others that are then filled.
 
-ghost use Rattle.std.specs.Prelude.{◌↔◌, ◌≡◌, ℕ, ◌<◌, ◌≤◌, ◌/◌, ◌+◌, ◌||◌, ◌&&◌, false, not, IsTrue, MatchOption};
+ghost use Rattle.std.specs.Prelude.{◌↔◌, ◌≡◌, ℕ, ◌<◌, ◌≤◌, ◌+◌, ◌||◌, ◌&&◌, not, IsTrue};
 ghost use Rattle.bit_tile.specs.Tile.{HasCells};
 ghost use Rattle.bit_tile.specs.Tile as in_tile;
-ghost use Rattle.gas_terms.specs.Cells.{most_side};
 ghost use Rattle.phase_step.specs.Actions.{IsTileCorner, IsLeftOf};
 ghost use Rattle.phase_step.specs.Counts.{AreTileCounts};
-ghost use Rattle.phase_step.specs.Exchanges.{leaves_of, nowhere, HasAllOf, HasTilesOf};
+ghost use Rattle.phase_step.specs.Exchanges.{is_among, is_met, leaves_of, meets_tile, nowhere, HasAllOf, HasTilesOf};
 
 use crate::exchanges::PortArray;
 use crate::exchanges::set_cells::{is_settled, set_areas};
@@ -39,7 +38,19 @@ impl Exchange {
     pub fn new(drains: PortArray<Rect>, sources: PortArray<Rect>) -> Exchange
         ensures { result ≡ record { drains = drains; sources = sources } }
     {
-        let met = tiles_met(drains.as_slice(), sources.as_slice());
+        let mut met = Tile::empty();
+        add_tiles_of_all(&mut met, drains.as_slice());
+        add_tiles_of_all(&mut met, sources.as_slice());
+        Exchange::among(drains, sources, met)
+    }
+
+    /// The same for whoever knows the tiles in which they have cells, since the same ports make many exchanges: a cell of `met`
+    /// stands for a tile.
+    pub fn among(drains: PortArray<Rect>, sources: PortArray<Rect>, met: Tile) -> Exchange
+        requires drains { HasTilesOf met drains }
+        requires sources { HasTilesOf met sources }
+        ensures { result ≡ record { drains = drains; sources = sources } }
+    {
         Exchange {
             drains,
             sources,
@@ -51,18 +62,15 @@ impl Exchange {
     pub fn none() -> Exchange
         ensures { result ≡ nowhere }
     {
-        Exchange::new(PortArray::none(any_area()), PortArray::none(any_area()))
+        let area = any_area();
+        Exchange::among(PortArray::none(area), PortArray::none(area), Tile::empty())
     }
 
     /// A clone.
     pub fn copy(&self) -> Exchange
         ensures { result ≡ self.now }
     {
-        Exchange {
-            drains: self.drains.copy(),
-            sources: self.sources.copy(),
-            met: self.met,
-        }
+        Exchange::among(self.drains.copy(), self.sources.copy(), self.met)
     }
 
     /// Whether it has neither drains nor sources.
@@ -115,34 +123,33 @@ pub fn any_area() -> Rect
     Rect::within(size, 0, 0, 1, 1).unwrap()
 }
 
-// Which tiles have a cell of some rectangle: a cell here stands for a tile.
-fn tiles_met(drains: &[Rect], sources: &[Rect]) -> Tile
-    ensures drains { HasTilesOf result drains.now }
-    ensures sources { HasTilesOf result sources.now }
+/// Adds the tiles in which a rectangle has cells to a set of them: its cell in column c and row r stands for the tile in column c and
+/// row r of tiles.
+pub fn add_tiles_of(met: &mut Tile, area: Rect)
+    ensures { HasCells met.new (λ column row.
+        in_tile.has met.old column row || meets_tile area column row) }
 {
-    let mut met = Tile::empty();
-    add_tiles(&mut met, drains);
-    add_tiles(&mut met, sources);
-    met
+    let (x, w) = tiles_along(area.x(), area.w());
+    let (y, h) = tiles_along(area.y(), area.h());
+    met.set_rect(x, y, w, h, true);
 }
 
-fn add_tiles(met: &mut Tile, areas: &[Rect])
+fn add_tiles_of_all(met: &mut Tile, areas: &[Rect])
     ensures added { HasTilesOf met.new areas.now }
     ensures kept { HasAllOf met.old met.new }
 {
     for area in areas {
-        let (x, w) = tiles_along(area.x(), area.w());
-        let (y, h) = tiles_along(area.y(), area.h());
-        met.set_rect(x, y, w, h, true);
+        add_tiles_of(met, *area);
     }
 }
 
 // Of the first 64 tiles along an axis, the first that has one of the `len` places from `start` on, and how many have.
 fn tiles_along(start: u16, len: u16) -> (u32, u32)
     ensures within { result.0 + result.1 ≤ 64 }
-    ensures met { (k : ℕ) → k < most_side → start ≤ k → k < start + len →
-        (result.0 ≤ k / 64) × (k / 64 < result.0 + result.1) }
+    ensures met { (k : ℕ) → k < 64 → is_among result.0 result.1 k ≡ is_met start len k }
 {
-    let (first, end) = gas_plane::tiles_met(u32::from(start), u32::from(len), 64);
+    let start = u32::from(start);
+    let end = ((start + u32::from(len) + 63) / 64).min(64);
+    let first = (start / 64).min(end);
     (first, end - first)
 }

@@ -33,10 +33,12 @@ fn act_on_part(particles: &mut Plane, exchange: &Exchange, part: Part, parity: u
     let mut counts = CellCounts::ZERO;
     let across = particles.across();
     let own = own_tiles(part, particles);
+    let mut next = particles.position(own.there);
     for i in own.first..own.end {
-        let there = own.there + (i - own.first);
-        let left = there % across * 64;
-        let top = there / across * 64;
+        let there = next;
+        next = there.next(across);
+        let left = there.column * 64;
+        let top = there.row * 64;
         if exchange.keeps(left, top, particles.tile(i)) {
             continue;
         }

@@ -1,7 +1,7 @@
 use Rattle.std.proofs.Common.{◌≡◌, ◌<◌, ◌/◌, ℕ, true, take}
 use Rattle.bit_tile.specs.Tile.{has}
 use Rattle.phase_step.specs.Exchanges.{is_in_any, HasAllOf}
-use Rattle.phase_step.proofs.exchanges.exchange.add_tiles.Given as goal
+use Rattle.phase_step.proofs.exchanges.exchange.add_tiles_of_all.Given as goal
 
 abbrev pub invariant-loop-area : goal.invariant-loop-area
 invariant-loop-area l =

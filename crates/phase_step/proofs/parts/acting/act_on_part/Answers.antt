@@ -1,6 +1,7 @@
-use Rattle.std.proofs.Common.{◌≡◌, ℕ, ◌+◌, ◌-◌, ◌*◌, ◌/◌, ◌%◌, ◌<◌, ◌∙◌, pos, refl, ap, arith}
+use Rattle.std.proofs.Common.{◌≡◌, ℕ, ◌+◌, ◌-◌, ◌*◌, ◌/◌, ◌<◌, ◌∙◌, pos, refl, sym, ap, subst, arith}
 use Rattle.gas_terms.specs.Cells.{Cells, tile_count, tile_rectangle}
-use Rattle.gas_plane.specs.Planes.{IsLattice, IsTileFrom, tile_of}
+use Rattle.gas_plane.specs.Planes.{IsLattice, IsPosition, IsTileFrom, tile_of}
+use Rattle.bit_tile.specs.declared.Tile.{Tile}
 use Rattle.gas_plane.proofs.PlaneCounts.{few_tiles}
 use Rattle.phase_step.specs.Actions.{Leaves, IsLeftOf, IsTileCorner, acted, movements}
 use Rattle.phase_step.specs.Counts.{moved_by_counts}
@@ -15,7 +16,7 @@ use Rattle.phase_step.proofs.MadeCells.{all_acted, none_before, none_made, own_b
 use Rattle.phase_step.proofs.OwnTiles.{lattice_is, own_cells, own_number, there_is, own_within_there}
 use Rattle.phase_step.proofs.PartActs.{corner_at, kept_there, left_at, left_there, moves_there, stays_there, still_rows, still_own}
 use Rattle.phase_step.proofs.parts.acting.act_on_part.Goals as goal
-use Rattle.phase_step.proofs.parts.acting.act_on_part.Goals.{After-on_tile-here, In-loop-i, Then-keeps}
+use Rattle.phase_step.proofs.parts.acting.act_on_part.Goals.{In-loop-i}
 
 pub returns-then-is_still-clause-rows : goal.returns-then-is_still-clause-rows
 returns-then-is_still-clause-rows c = λ lattice is.
@@ -33,6 +34,8 @@ loop-i-init c =
     let leaves = leaves_of c.args.exchange.now in
     record {
       from = omega arith;
+      tile = omega arith;
+      at = c.position-next.ensures.position;
       sides = record { wide = refl; high = refl };
       made = λ lattice is. none_made (tile_of old) first 64 c.args.part (acted leaves lattice) old (none_before c.args.part old first t.ensures.lattice.sized t.ensures.own.first);
       gained = none_few _;
@@ -40,133 +43,130 @@ loop-i-init c =
       moved = λ lattice is. zeros_move_nothing (pos c.args.parity) ∙ (let e : 0 ≡ first - first = omega arith in ap (tiles_move (pos c.args.parity) lattice (acted leaves lattice) (c.args.part.first * (lattice.width / 64))) e);
     }
 
-corner : (c : In-loop-i) → (let j = c.own_tiles-own.result.there + (c.loop-i.i - c.own_tiles-own.result.first) in IsTileCorner (j % c.across-across.result * 64) (j / c.across-across.result * 64))
-corner c =
-    let h = c.requires.some in
-    let is = h.is in
-    let t = c.own_tiles-own in
-    let cells = c.args.particles.now in
-    let i = c.loop-i.i in
-    corner_at h.lattice c.across-across.result _ _ (lattice_is c.args.part cells h.lattice 64 is) (own_within_there c.args.part cells h.lattice i t.ensures.lattice.sized is.placed (t.ensures.own.each i c.loop-i.invariant.from c.loop-i-test.true))
-    (c.across-across.ensures.across ∙ ap (λ w. w / 64) is.placed.wide) (there_is c.args.part cells h.lattice i t.result.first t.result.there is.placed t.ensures.own.first t.ensures.own.there)
+-- own tile i
+module _ (c : In-loop-i) where
+  abbrev leaves : Leaves
+  leaves = leaves_of c.args.exchange.now
 
-pub keeps-requires : goal.keeps-requires
-keeps-requires c = corner (goal.at.keeps-requires c).In-loop-i
+  own : IsOwn c.args.part c.args.particles.now c.loop-i.i
+  own = c.own_tiles-own.ensures.own.each c.loop-i.i c.loop-i.invariant.from c.loop-i-test.true
 
-pub on_tile-here-requires : goal.on_tile-here-requires
-on_tile-here-requires c = corner (goal.at.on_tile-here-requires c).In-loop-i
+  few : c.loop-i.i - c.own_tiles-own.result.first < 4096
+  few = let within = own.within in let all = few_tiles c.args.particles.now c.loop-i.i c.own_tiles-own.ensures.lattice (omega (arith, within)) in omega (arith, all)
 
--- a tile that is left as it is
-module _ (c : Then-keeps) (lattice : Cells) (is : IsPartOf c.args.part c.args.particles.now lattice 64) where
-  abbrev leaves_it : Leaves
-  leaves_it = leaves_of c.args.exchange.now
-
+-- in a lattice of which it is a part
+module _ (c : In-loop-i) (lattice : Cells) (is : IsPartOf c.args.part c.args.particles.now lattice 64) where
   abbrev number : ℕ
   number = tile_in c.args.part (lattice.width / 64) c.loop-i.i
 
-  its_own : IsOwn c.args.part c.args.particles.now c.loop-i.i
-  its_own = c.own_tiles-own.ensures.own.each c.loop-i.i c.loop-i.invariant.from c.loop-i-test.true
+  whole : IsLattice lattice
+  whole = lattice_is c.args.part c.args.particles.now lattice 64 is
 
-  is_whole : IsLattice lattice
-  is_whole = lattice_is c.args.part c.args.particles.now lattice 64 is
+  below : number < tile_count lattice
+  below = own_within_there c.args.part c.args.particles.now lattice c.loop-i.i c.own_tiles-own.ensures.lattice.sized is.placed (own c)
 
-  is_below : number < tile_count lattice
-  is_below = own_within_there c.args.part c.args.particles.now lattice c.loop-i.i c.own_tiles-own.ensures.lattice.sized is.placed its_own
+  numbered : number ≡ c.args.part.first * (lattice.width / 64) + (c.loop-i.i - c.own_tiles-own.result.first)
+  numbered = own_number c.args.part c.args.particles.now lattice c.loop-i.i c.own_tiles-own.result.first is.placed c.own_tiles-own.ensures.own.first
 
-  is_from : (let r = tile_rectangle lattice number in IsTileFrom c.tile.result.now lattice r.x r.y)
-  is_from =
-      own_cells c.args.part c.args.particles.now lattice c.loop-i.i c.tile.result.now c.own_tiles-own.ensures.lattice.sized is its_own
-      (tile_before c.args.part (acted leaves_it lattice) c.args.particles.now c.loop-i.particles c.loop-i.i 64 c.tile.result.now c.own_tiles-own.ensures.lattice its_own (c.loop-i.invariant.made lattice is) c.tile.ensures)
+  across : c.args.particles.now.width / 64 ≡ lattice.width / 64
+  across = ap (λ w. w / 64) is.placed.wide
 
-  is_left : (let r = tile_rectangle lattice number in IsLeftOf leaves_it r.x r.y c.tile.result.now c.tile.result.now)
-  is_left = left_at leaves_it lattice c.across-across.result _ _ c.tile.result.now c.tile.result.now (c.across-across.ensures.across ∙ ap (λ w. w / 64) is.placed.wide)
-      (there_is c.args.part c.args.particles.now lattice c.loop-i.i c.own_tiles-own.result.first c.own_tiles-own.result.there is.placed c.own_tiles-own.ensures.own.first c.own_tiles-own.ensures.own.there) (c.keeps.ensures c.if-keeps.true)
+  there : c.loop-i.next.tile ≡ number
+  there = c.loop-i.invariant.tile ∙ (ap (λ t. t + (c.loop-i.i - c.own_tiles-own.result.first)) c.position-next.ensures.tile ∙ there_is c.args.part c.args.particles.now lattice c.loop-i.i c.own_tiles-own.result.first c.own_tiles-own.result.there is.placed c.own_tiles-own.ensures.own.first c.own_tiles-own.ensures.own.there)
+
+  corner : IsTileCorner (c.loop-i.next.column * 64) (c.loop-i.next.row * 64)
+  corner = corner_at lattice (c.args.particles.now.width / 64) number c.loop-i.next whole below across there c.loop-i.invariant.at
+
+  from : (t : Tile) → (let r = tile_rectangle c.loop-i.particles c.loop-i.i in IsTileFrom t c.loop-i.particles r.x r.y) → (let r = tile_rectangle lattice number in IsTileFrom t lattice r.x r.y)
+  from t shown =
+      own_cells c.args.part c.args.particles.now lattice c.loop-i.i t c.own_tiles-own.ensures.lattice.sized is (own c)
+      (tile_before c.args.part (acted (leaves c) lattice) c.args.particles.now c.loop-i.particles c.loop-i.i 64 t c.own_tiles-own.ensures.lattice (own c) (c.loop-i.invariant.made lattice is) shown)
+
+  left : (old new : Tile) → IsLeftOf (leaves c) (c.loop-i.next.column * 64) (c.loop-i.next.row * 64) old new → (let r = tile_rectangle lattice number in IsLeftOf (leaves c) r.x r.y old new)
+  left old new = left_at (leaves c) lattice (c.args.particles.now.width / 64) number c.loop-i.next old new across there c.loop-i.invariant.at
+
+pub next-next-requires-clause-few : goal.next-next-requires-clause-few
+next-next-requires-clause-few c =
+    let h = c.requires.some in
+    let at = (goal.at.next-next-requires-clause-few c).In-loop-i in
+    let less = below at h.lattice h.is in
+    let all = few_tiles h.lattice (tile_count h.lattice) (whole at h.lattice h.is) (omega arith) in
+    let e = there at h.lattice h.is in
+    omega (arith, less, all, e)
+
+pub next-next-requires-clause-position : goal.next-next-requires-clause-position
+next-next-requires-clause-position c = subst (λ n. IsPosition n c.loop-i.next) (sym c.across-across.ensures.across) c.loop-i.invariant.at
+
+pub keeps-requires : goal.keeps-requires
+keeps-requires c = let h = c.requires.some in corner (goal.at.keeps-requires c).In-loop-i h.lattice h.is
+
+pub on_tile-here-requires : goal.on_tile-here-requires
+on_tile-here-requires c = let h = c.requires.some in corner (goal.at.on_tile-here-requires c).In-loop-i h.lattice h.is
+
+pub plus-sum-requires-clause-gained : goal.plus-sum-requires-clause-gained
+plus-sum-requires-clause-gained c = λ k h.
+    let most = few (goal.at.plus-sum-requires-clause-gained c).In-loop-i in
+    omega (arith, most, c.loop-i.invariant.gained k h, c.on_tile-here.ensures.gained.few k h)
+
+pub plus-sum-requires-clause-lost : goal.plus-sum-requires-clause-lost
+plus-sum-requires-clause-lost c = λ k h.
+    let most = few (goal.at.plus-sum-requires-clause-lost c).In-loop-i in
+    omega (arith, most, c.loop-i.invariant.lost k h, c.on_tile-here.ensures.lost.few k h)
 
 pub loop-i-preserved-then-keeps : goal.loop-i-preserved-then-keeps
 loop-i-preserved-then-keeps c =
+    let at = (goal.at.loop-i-preserved-then-keeps c).In-loop-i in
     let cells = c.args.particles.now in
     let part = c.args.part in
     let i = c.loop-i.i in
-    let leaves = leaves_of c.args.exchange.now in
-    let t = c.own_tiles-own in
+    let first = c.own_tiles-own.result.first in
+    let tile = c.tile.result.now in
     let low = c.loop-i.invariant.from in
+    let as_left : (lattice : Cells) (is : IsPartOf part cells lattice 64) → (let r = tile_rectangle lattice (number at lattice is) in IsLeftOf (leaves at) r.x r.y tile tile) = λ lattice is. left at lattice is tile tile (c.keeps.ensures c.if-keeps.true) in
     record {
       from = omega (arith, low);
+      tile = let e = c.loop-i.invariant.tile in c.next-next.ensures.tile ∙ omega (arith, e, low);
+      at = subst (λ n. IsPosition n c.next-next.result) c.across-across.ensures.across c.next-next.ensures.position;
       sides = c.loop-i.invariant.sides;
       made = λ lattice is.
-          tile_stays part cells lattice (acted leaves lattice) c.loop-i.particles i t.ensures.lattice.sized is (its_own c lattice is) (c.loop-i.invariant.made lattice is)
-          (kept_there leaves lattice (number c lattice is) c.tile.result.now (is_whole c lattice is) (is_below c lattice is) (is_from c lattice is) (is_left c lattice is));
+          tile_stays part cells lattice (acted (leaves at) lattice) c.loop-i.particles i c.own_tiles-own.ensures.lattice.sized is (own at) (c.loop-i.invariant.made lattice is)
+          (kept_there (leaves at) lattice (number at lattice is) tile (whole at lattice is) (below at lattice is) (from at lattice is tile c.tile.ensures) (as_left lattice is));
       gained = λ k h. let few = c.loop-i.invariant.gained k h in omega (arith, few, low);
       lost = λ k h. let few = c.loop-i.invariant.lost k h in omega (arith, few, low);
       moved = λ lattice is.
           movements_add.right _
-          ∙ sum_next movements _ t.result.first i (moved_by_counts (pos c.args.parity) c.loop-i.counts) _ low (c.loop-i.invariant.moved lattice is)
-          (stays_there leaves lattice (number c lattice is) c.tile.result.now (is_whole c lattice is) (is_below c lattice is) (is_from c lattice is) (is_left c lattice is) (pos c.args.parity)
-          ∙ ap (tile_moves (pos c.args.parity) lattice (acted leaves lattice)) (own_number part cells lattice i t.result.first is.placed t.ensures.own.first));
+          ∙ sum_next movements _ first i (moved_by_counts (pos c.args.parity) c.loop-i.counts) _ low (c.loop-i.invariant.moved lattice is)
+          (stays_there (leaves at) lattice (number at lattice is) tile (whole at lattice is) (below at lattice is) (from at lattice is tile c.tile.ensures) (as_left lattice is) (pos c.args.parity)
+          ∙ ap (tile_moves (pos c.args.parity) lattice (acted (leaves at) lattice)) (numbered at lattice is));
     }
-
-own : (c : After-on_tile-here) → IsOwn c.args.part c.args.particles.now c.loop-i.i
-own c = c.own_tiles-own.ensures.own.each c.loop-i.i c.loop-i.invariant.from c.loop-i-test.true
-
--- what an own tile was, becomes and moves
-module _ (c : After-on_tile-here) (lattice : Cells) (is : IsPartOf c.args.part c.args.particles.now lattice 64) where
-  whole : IsLattice lattice
-  whole = lattice_is c.args.part c.args.particles.now lattice 64 is
-
-  below : tile_in c.args.part (lattice.width / 64) c.loop-i.i < tile_count lattice
-  below = own_within_there c.args.part c.args.particles.now lattice c.loop-i.i c.own_tiles-own.ensures.lattice.sized is.placed (own c)
-
-  from : (let r = tile_rectangle lattice (tile_in c.args.part (lattice.width / 64) c.loop-i.i) in IsTileFrom c.tile_mut.result.now lattice r.x r.y)
-  from =
-      let leaves = leaves_of c.args.exchange.now in
-      own_cells c.args.part c.args.particles.now lattice c.loop-i.i c.tile_mut.result.now c.own_tiles-own.ensures.lattice.sized is (own c)
-      (tile_before c.args.part (acted leaves lattice) c.args.particles.now c.loop-i.particles c.loop-i.i 64 c.tile_mut.result.now c.own_tiles-own.ensures.lattice (own c) (c.loop-i.invariant.made lattice is) c.tile_mut.ensures.tile)
-
-  left : (let r = tile_rectangle lattice (tile_in c.args.part (lattice.width / 64) c.loop-i.i) in IsLeftOf (leaves_of c.args.exchange.now) r.x r.y c.tile_mut.result.now c.on_tile-here.new.tile)
-  left = left_at (leaves_of c.args.exchange.now) lattice c.across-across.result _ _ c.tile_mut.result.now c.on_tile-here.new.tile (c.across-across.ensures.across ∙ ap (λ w. w / 64) is.placed.wide)
-      (there_is c.args.part c.args.particles.now lattice c.loop-i.i c.own_tiles-own.result.first c.own_tiles-own.result.there is.placed c.own_tiles-own.ensures.own.first c.own_tiles-own.ensures.own.there) c.on_tile-here.ensures.left
-
-  is_moved : moved_by_counts (pos c.args.parity) c.on_tile-here.result ≡ tile_moves (pos c.args.parity) lattice (acted (leaves_of c.args.exchange.now) lattice) (c.args.part.first * (lattice.width / 64) + (c.loop-i.i - c.own_tiles-own.result.first))
-  is_moved =
-      let leaves = leaves_of c.args.exchange.now in
-      let j = tile_in c.args.part (lattice.width / 64) c.loop-i.i in
-      moves_there (pos c.args.parity) leaves lattice j c.on_tile-here.result c.tile_mut.result.now c.on_tile-here.new.tile whole below from left c.on_tile-here.ensures.gained c.on_tile-here.ensures.lost
-      ∙ ap (tile_moves (pos c.args.parity) lattice (acted leaves lattice)) (own_number c.args.part c.args.particles.now lattice c.loop-i.i c.own_tiles-own.result.first is.placed c.own_tiles-own.ensures.own.first)
-
--- how many tiles there are
-few_own : (c : After-on_tile-here) → c.loop-i.i - c.own_tiles-own.result.first < 4096
-few_own c = let within = (own c).within in let few = few_tiles c.args.particles.now c.loop-i.i c.own_tiles-own.ensures.lattice (omega (arith, within)) in omega (arith, few)
-
-pub plus-sum-requires-clause-gained : goal.plus-sum-requires-clause-gained
-plus-sum-requires-clause-gained c = λ k h.
-    let few = few_own (goal.at.plus-sum-requires-clause-gained c).After-on_tile-here in
-    omega (arith, few, c.loop-i.invariant.gained k h, c.on_tile-here.ensures.gained.few k h)
-
-pub plus-sum-requires-clause-lost : goal.plus-sum-requires-clause-lost
-plus-sum-requires-clause-lost c = λ k h.
-    let few = few_own (goal.at.plus-sum-requires-clause-lost c).After-on_tile-here in
-    omega (arith, few, c.loop-i.invariant.lost k h, c.on_tile-here.ensures.lost.few k h)
 
 pub loop-i-preserved : goal.loop-i-preserved
 loop-i-preserved c =
+    let at = (goal.at.loop-i-preserved c).In-loop-i in
     let cells = c.args.particles.now in
     let part = c.args.part in
     let i = c.loop-i.i in
-    let leaves = leaves_of c.args.exchange.now in
-    let after = (goal.at.loop-i-preserved c).After-on_tile-here in
+    let first = c.own_tiles-own.result.first in
+    let old = c.tile_mut.result.now in
+    let new = c.on_tile-here.new.tile in
+    let change = c.on_tile-here.result in
     let low = c.loop-i.invariant.from in
+    let as_left : (lattice : Cells) (is : IsPartOf part cells lattice 64) → (let r = tile_rectangle lattice (number at lattice is) in IsLeftOf (leaves at) r.x r.y old new) = λ lattice is. left at lattice is old new c.on_tile-here.ensures.left in
     record {
       from = omega (arith, low);
+      tile = let e = c.loop-i.invariant.tile in c.next-next.ensures.tile ∙ omega (arith, e, low);
+      at = subst (λ n. IsPosition n c.next-next.result) c.across-across.ensures.across c.next-next.ensures.position;
       sides = record { wide = c.loop-i.invariant.sides.wide; high = c.loop-i.invariant.sides.high };
       made = λ lattice is.
-          tile_made part cells lattice (acted leaves lattice) c.loop-i.particles i c.on_tile-here.new.tile c.own_tiles-own.ensures.lattice.sized is.placed (own after) (c.loop-i.invariant.made lattice is)
-          (left_there leaves lattice (tile_in part (lattice.width / 64) i) c.tile_mut.result.now c.on_tile-here.new.tile (whole after lattice is) (below after lattice is) (from after lattice is) (left after lattice is));
-      gained = λ k h. let few = few_together _ _ c.loop-i.counts.gained c.on_tile-here.result.gained c.plus-sum.result.gained c.plus-sum.ensures.gained c.loop-i.invariant.gained c.on_tile-here.ensures.gained.few k h in omega (arith, few, low);
-      lost = λ k h. let few = few_together _ _ c.loop-i.counts.lost c.on_tile-here.result.lost c.plus-sum.result.lost c.plus-sum.ensures.lost c.loop-i.invariant.lost c.on_tile-here.ensures.lost.few k h in omega (arith, few, low);
+          tile_made part cells lattice (acted (leaves at) lattice) c.loop-i.particles i new c.own_tiles-own.ensures.lattice.sized is.placed (own at) (c.loop-i.invariant.made lattice is)
+          (left_there (leaves at) lattice (number at lattice is) old new (whole at lattice is) (below at lattice is) (from at lattice is old c.tile_mut.ensures.tile) (as_left lattice is));
+      gained = λ k h. let few = few_together _ _ c.loop-i.counts.gained change.gained c.plus-sum.result.gained c.plus-sum.ensures.gained c.loop-i.invariant.gained c.on_tile-here.ensures.gained.few k h in omega (arith, few, low);
+      lost = λ k h. let few = few_together _ _ c.loop-i.counts.lost change.lost c.plus-sum.result.lost c.plus-sum.ensures.lost c.loop-i.invariant.lost c.on_tile-here.ensures.lost.few k h in omega (arith, few, low);
       moved = λ lattice is.
-          moved_together (pos c.args.parity) c.loop-i.counts c.on_tile-here.result c.plus-sum.result c.plus-sum.ensures.gained c.plus-sum.ensures.lost
-          ∙ sum_next movements _ c.own_tiles-own.result.first i (moved_by_counts (pos c.args.parity) c.loop-i.counts) (moved_by_counts (pos c.args.parity) c.on_tile-here.result) low (c.loop-i.invariant.moved lattice is)
-          (is_moved after lattice is);
+          moved_together (pos c.args.parity) c.loop-i.counts change c.plus-sum.result c.plus-sum.ensures.gained c.plus-sum.ensures.lost
+          ∙ sum_next movements _ first i (moved_by_counts (pos c.args.parity) c.loop-i.counts) (moved_by_counts (pos c.args.parity) change) low (c.loop-i.invariant.moved lattice is)
+          (moves_there (pos c.args.parity) (leaves at) lattice (number at lattice is) change old new (whole at lattice is) (below at lattice is) (from at lattice is old c.tile_mut.ensures.tile) (as_left lattice is) c.on_tile-here.ensures.gained c.on_tile-here.ensures.lost
+          ∙ ap (tile_moves (pos c.args.parity) lattice (acted (leaves at) lattice)) (numbered at lattice is));
     }
 
 pub returns-clause-rows : goal.returns-clause-rows

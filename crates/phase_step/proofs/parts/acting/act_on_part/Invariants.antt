@@ -1,6 +1,6 @@
-use Rattle.std.proofs.Common.{◌≡◌, ◌-◌, ◌*◌, ◌/◌, ◌≤◌, pos}
+use Rattle.std.proofs.Common.{◌≡◌, ◌+◌, ◌-◌, ◌*◌, ◌/◌, ◌≤◌, pos}
 use Rattle.gas_terms.specs.Cells.{Cells, HasSidesOf}
-use Rattle.gas_plane.specs.Planes.{tile_of}
+use Rattle.gas_plane.specs.Planes.{tile_of, IsPosition}
 use Rattle.phase_step.specs.Actions.{acted}
 use Rattle.phase_step.specs.Counts.{moved_by_counts}
 use Rattle.phase_step.specs.Exchanges.{leaves_of}
@@ -14,6 +14,8 @@ invariant-loop-i l =
     let old = l.initial.particles in
     record {
       from : l.initial.i ≤ l.i;
+      tile : l.next.tile ≡ l.initial.next.tile + (l.i - l.initial.i);
+      at : IsPosition (old.width / 64) l.next;
       sides : HasSidesOf l.particles old;
       made : (lattice : Cells) → IsPartOf l.fn.part old lattice 64 → AreMadeTo (made_to (tile_of old) l.i 64 l.fn.part) (acted (leaves_of l.exchange) lattice) old l.particles;
       gained : AreFew (2048 * (l.i - l.initial.i)) l.counts.gained;
