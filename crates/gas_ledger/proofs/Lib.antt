@@ -1,5 +1,6 @@
 pub mod Strips
 pub mod Moving
+pub mod MetTiles
 pub mod Running
 pub mod Stepping
 pub mod Editing

@@ -24,7 +24,7 @@ use Rattle.gas_terms.proofs.Emptied.{not_both, gained-filled, lost-filled, gaine
 use Rattle.gas_terms.specs.Counts.{AreSmall}
 
 -- a source that is due fills its rectangle
-due_first : (due : Bool) (s : Source) (rest : List Source) (x y : ℕ) → is_in_any (map (λ (s : Source). s.area) (cond due (s ∷ rest) rest)) x y ≡ ((due && is_inside s.area x y) || is_in_any (map (λ (s : Source). s.area) rest) x y)
+pub due_first : (due : Bool) (s : Source) (rest : List Source) (x y : ℕ) → is_in_any (map (λ (s : Source). s.area) (cond due (s ∷ rest) rest)) x y ≡ ((due && is_inside s.area x y) || is_in_any (map (λ (s : Source). s.area) rest) x y)
 due_first true s rest x y = refl
 due_first false s rest x y = refl
 

@@ -1,10 +1,12 @@
 use Rattle.std.specs.Prelude.{◌≡◌, ◌≤◌, ℕ, Bool, true, not, ◌&&◌, ◌||◌, ℤ, List, [], ◌∷◌, ◌++◌, length, map, filter}
 use Rattle.std.specs.List.{All, list_any}
+use Rattle.bit_tile.specs.declared.Tile.{Tile}
 use Rattle.gas_terms.specs.Cells.{Cells, Extent, Rectangle, lies_within, is_inside}
 use Rattle.gas_terms.specs.Gas.{Source, most_ports, has_most_ports, is_due, ported}
 use Rattle.gas_terms.specs.Commands.{is_period}
 use Rattle.gas_terms.specs.declared.command.Command.{Command}
 use Rattle.gas_terms.specs.declared.command.Command.TheVariants.{Source as AddSource, Drain as AddDrain}
+use Rattle.phase_step.specs.Exchanges.{HasTilesOf}
 use Rattle.gas_ledger.specs.declared.port.Port.{Port}
 use Rattle.gas_ledger.specs.declared.port.Port.TheVariants.{Drain as DrainAt, Source as SourceAt}
 
@@ -42,6 +44,11 @@ pub record IsPortSet (ports : PortLists) : Type 0 where
   pub few_drains : length ports.drains ≤ most_ports
   pub few_sources : length ports.sources ≤ most_ports
   pub periods : All (λ s. is_period s.period ≡ true) ports.sources
+
+-- the set has each tile in which a port has a cell
+pub record AreMetIn (met : Tile) (ports : PortLists) : Type 0 where
+  pub drains : HasTilesOf met ports.drains
+  pub sources : HasTilesOf met (map (λ s. s.area) ports.sources)
 
 -- Each port is inside a lattice of the size.
 pub record LieWithin (size : Extent) (ports : PortLists) : Type 0 where

@@ -5,7 +5,6 @@ ghost use Rattle.gas_ledger.specs.PortLists.{ported_by};
 ghost use Rattle.gas_terms.specs.Accounts.{moved_by};
 
 use crate::ports::Ports;
-use crate::ports_from::exchange_at;
 use gas_plane::Plane;
 use gas_terms::{Moved, Tick};
 use phase_step::act_on;
@@ -16,5 +15,5 @@ pub fn apply_ports(plane: &mut Plane, ports: &Ports, tick: Tick) -> Moved
     ensures cells { plane.new ≡ ported_by ports.now tick plane.old }
     ensures moved { result ≡ moved_by tick plane.old plane.new }
 {
-    act_on(plane, &exchange_at(ports, tick.get()), tick.parity())
+    act_on(plane, &ports.exchange_at(tick.get()), tick.parity())
 }

@@ -4,8 +4,9 @@ ghost use Rattle.std.specs.Prelude.{◌≡◌, ◌<◌, ◌%◌, ◌==◌, ◌||
 ghost use Rattle.gas_ledger.specs.PortLists.{no_ports, with_port, has_all, has_period, due_areas, IsPortSet};
 
 use crate::port::{Full, Port, Source};
+use gas_plane::Tile;
 use gas_terms::{MOST_PORTS, Rect};
-use phase_step::{PortArray, any_area};
+use phase_step::{Exchange, PortArray, add_tiles_of, any_area};
 use std::marker::Model;
 
 /// At most `MOST_PORTS` drains and as many sources, in the order in which they were added.
@@ -13,16 +14,19 @@ use std::marker::Model;
 pub struct Ports {
     drains: PortArray<Rect>,
     sources: PortArray<Source>,
+    // The tiles in which they have cells. A step makes an exchange, and only a new port changes these.
+    met: Tile,
 }
 
 impl Model for Ports {
-    ghost use Rattle.gas_ledger.specs.PortLists.{PortLists, IsPortSet};
+    ghost use Rattle.gas_ledger.specs.PortLists.{PortLists, AreMetIn, IsPortSet};
 
     ghost Value = { PortLists };
 
     ghost view = { λ p. record { drains = p.drains; sources = p.sources } };
 
-    ghost invariant = { λ p. IsPortSet (record { drains = p.drains; sources = p.sources }) };
+    ghost invariant = { λ p. let ports : PortLists = record { drains = p.drains; sources = p.sources } in
+        IsPortSet ports × AreMetIn p.met ports };
 }
 
 impl Ports {
@@ -34,6 +38,7 @@ impl Ports {
         Ports {
             drains: PortArray::none(area),
             sources: PortArray::none(Source { area, period: 1 }),
+            met: Tile::empty(),
         }
     }
 
@@ -44,6 +49,7 @@ impl Ports {
         Ports {
             drains: self.drains.copy(),
             sources: self.sources.copy(),
+            met: self.met,
         }
     }
 
@@ -64,8 +70,14 @@ impl Ports {
         ensures { self.new ≡ with_port self.old port }
     {
         match port {
-            Port::Drain(area) => self.drains.push(area),
-            Port::Source(area, period) => self.sources.push(Source { area, period }),
+            Port::Drain(area) => {
+                add_tiles_of(&mut self.met, area);
+                self.drains.push(area);
+            }
+            Port::Source(area, period) => {
+                add_tiles_of(&mut self.met, area);
+                self.sources.push(Source { area, period });
+            }
         }
     }
 
@@ -89,6 +101,7 @@ impl Ports {
     {
         self.drains.clear();
         self.sources.clear();
+        self.met = Tile::empty();
     }
 
     /// Whether there is any port.
@@ -116,15 +129,18 @@ impl Ports {
         self.sources.as_slice()
     }
 
-    /// The rectangles of the drains in a list of their own.
-    pub(crate) fn drain_areas(&self) -> PortArray<Rect>
-        ensures { result ≡ self.now.drains }
+    /// What they do at this tick.
+    pub(crate) fn exchange_at(&self, tick: i64) -> Exchange
+        ensures { result ≡ record {
+          drains = self.now.drains;
+          sources = due_areas tick self.now.sources;
+        } }
     {
-        self.drains.copy()
+        Exchange::among(self.drains.copy(), self.due(tick), self.met)
     }
 
-    /// The rectangles of the sources that are due at the tick.
-    pub(crate) fn due(&self, tick: i64) -> PortArray<Rect>
+    // The rectangles of the sources that are due at the tick.
+    fn due(&self, tick: i64) -> PortArray<Rect>
         ensures { result ≡ due_areas tick self.now.sources }
     {
         let mut due = PortArray::none(any_area());
