@@ -25,7 +25,8 @@ impl Model for Ports {
 
     ghost view = { λ p. record { drains = p.drains; sources = p.sources } };
 
-    ghost invariant = { λ p. let ports : PortLists = record { drains = p.drains; sources = p.sources } in
+    ghost invariant = { λ p.
+        let ports : PortLists = record { drains = p.drains; sources = p.sources } in
         IsPortSet ports × AreMetIn p.met ports };
 }
 

@@ -9,7 +9,7 @@ use gas_plane::{Plane, Tile};
 use gas_terms::{Pair, Rect, Size, Took};
 use phase_step::{
     Action, ActionFrom, CellCounts, Exchange, Listed, PortArray, Run, Serial, Stepper, Still,
-    act_on,
+    act_on, add_tiles_of,
 };
 use std::process::Abort;
 
@@ -72,7 +72,9 @@ fn emptied(rt: &impl Abort, size: Size) -> Exchange {
     let all = Rect::within(size, 0, 0, w, h).expect(rt, "a rectangle");
     let mut drains = PortArray::none(all);
     drains.push(all);
-    Exchange::new(drains, PortArray::none(all))
+    let mut met = Tile::empty();
+    add_tiles_of(&mut met, all);
+    Exchange::among(drains, PortArray::none(all), met)
 }
 
 // Two particles at tick 0, which both go right and down.
@@ -217,6 +219,18 @@ fn exchange_without_ports_is_still(rt: HostRuntime) {
     let none = Exchange::none();
     expect_that(&rt, none.is_still());
     expect_that(&rt, none.keeps(0, 0, &Tile::rect(0, 0, 2, 2)));
+}
+
+#[test]
+fn tiles_of_a_rectangle(rt: HostRuntime) {
+    let size = Size::new(4096, 4096).expect(&rt, "a size");
+    let area = Rect::within(size, 60, 127, 10, 2).expect(&rt, "a rectangle");
+    let mut met = Tile::rect(9, 9, 1, 1);
+    add_tiles_of(&mut met, area);
+    // Columns 60 to 69 are in two tiles, and so are rows 127 and 128.
+    let mut want = Tile::rect(0, 1, 2, 2);
+    want.set(9, 9, true);
+    expect_that(&rt, same_cells(&met, &want));
 }
 
 #[test]

@@ -44,8 +44,8 @@ impl Exchange {
         Exchange::among(drains, sources, met)
     }
 
-    /// The same for whoever knows the tiles in which they have cells, since the same ports make many exchanges: a cell of `met`
-    /// stands for a tile.
+    /// The exchange by these drains and sources, all of whose cells are in the tiles of `met`: its cell in column c and row r stands
+    /// for the tile in column c and row r of tiles. Whoever makes many exchanges of the same ports finds these once.
     pub fn among(drains: PortArray<Rect>, sources: PortArray<Rect>, met: Tile) -> Exchange
         requires drains { HasTilesOf met drains }
         requires sources { HasTilesOf met sources }
@@ -123,8 +123,8 @@ pub fn any_area() -> Rect
     Rect::within(size, 0, 0, 1, 1).unwrap()
 }
 
-/// Adds the tiles in which a rectangle has cells to a set of them: its cell in column c and row r stands for the tile in column c and
-/// row r of tiles.
+/// Adds the tiles in which a rectangle has cells to those of `met`: its cell in column c and row r stands for the tile in column c
+/// and row r of tiles.
 pub fn add_tiles_of(met: &mut Tile, area: Rect)
     ensures { HasCells met.new (λ column row.
         in_tile.has met.old column row || meets_tile area column row) }
