@@ -6,16 +6,13 @@ use Rattle.std.specs.Int.RustNames.{count_ones}
 use Rattle.bit_tile.specs.Bit.{bit}
 use Rattle.bit_tile.specs.Sums.{sum_below, count_below}
 use Rattle.bit_tile.specs.Tile.{cell_changes, is_among_rows}
-use Rattle.bit_tile.proofs.Bits.{bit-and, bit-xor, bit-zero, either}
+use Rattle.bit_tile.proofs.Bits.{bit-and, bit-xor, either}
 use Rattle.bit_tile.proofs.Classes.{IsClass, bounds_of, starts}
 use Rattle.bit_tile.proofs.Counts.{counted_of_class, class}
 use Rattle.bit_tile.proofs.Sums.{sum_below-same, sum_below-bound, sum_below-suc, sum_below-more, count_below-same, count_below-none, ones_are_bits}
 
 pub reached : (first j : ℕ) → first ≤ j → nat_le first j ≡ true
 reached first j h = grind (arith, nat_tests)
-
-pub unreached : (first j : ℕ) → j < first → nat_le first j ≡ false
-unreached first j h = grind (arith, nat_tests)
 
 -- the cells of a row that change, and what the row is then
 flips : (was held column : Bool) → (either was held && column) ≡ (column && cell_changes held was)
@@ -83,16 +80,6 @@ above_first word first i k b h = grind (arith, nat_tests)
 
 in_row : (column from a b : Bool) → from ≡ true → a ≡ b → (column && a) ≡ ((column && from) && b)
 in_row column from a b e f = grind arith
-
--- a word without columns sets none
-pub no_column : (word first end i j : ℕ) → word ≡ 0 → is_among_rows word first end i j ≡ false
-no_column word first end i j e = ap (λ w. bit w i && nat_le first j && nat_lt j end) e ∙ ap (λ b. b && nat_le first j && nat_lt j end) (bit-zero i)
-
-pub no_column_sets : (word first end i j : ℕ) (held was : Bool) → word ≡ 0 → was ≡ (if is_among_rows word first end i j then held else was)
-no_column_sets word first end i j held was e = ap (λ b. if b then held else was) (sym (no_column word first end i j e))
-
-pub no_column_counts : (word first end : ℕ) (changes : ℕ → ℕ → Bool) → word ≡ 0 → 0 ≡ sum_below 32 (λ k. count_below 32 (λ i. is_among_rows word first end i k && changes i k))
-no_column_counts word first end changes e = none_before 32 _ (λ k _. none_in_row _ (λ i _. ap (λ b. b && changes i k) (no_column word first end i k e)))
 
 -- a row that is written leaves those below it
 pub kept_below : (rows : List ℕ) (j w k : ℕ) → j + 1 ≤ k → get_or (set rows j w) k 0 ≡ get_or rows k 0

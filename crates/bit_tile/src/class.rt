@@ -32,9 +32,29 @@ pub fn set_rows(class: &mut [u32; 32], word: u32, rows: (u32, u32), held: bool) 
         is_among_rows word rows.0 rows.1 i j && cell_changes held (in_class class.old i j))) }
     ensures bound { result ≤ 1024 }
 {
+    let lowest = word & word.wrapping_neg();
     if word == 0 {
-        return 0;
+        set_each(class, 0, rows, held)
+    } else if rows.0 != 0 || rows.1 != 32 {
+        set_each(class, word, rows, held)
+    } else if word == lowest {
+        set_each(class, lowest, (0, 32), held)
+    } else {
+        set_each(class, word, (0, 32), held)
     }
+}
+
+// The loop of `set_rows`, compiled for each call: LLVM drops it for the word 0, and doesn't count the ones of a lone bit.
+#[inline(always)]
+fn set_each(class: &mut [u32; 32], word: u32, rows: (u32, u32), held: bool) -> u32
+    requires order { rows.0 ≤ rows.1 }
+    requires within { rows.1 ≤ 32 }
+    ensures cells { (i j : ℕ) → i < 32 → j < 32 → in_class class.new i j ≡
+        (if is_among_rows word rows.0 rows.1 i j then held else in_class class.old i j) }
+    ensures count { result ≡ sum_below 32 (λ j. count_below 32 (λ i.
+        is_among_rows word rows.0 rows.1 i j && cell_changes held (in_class class.old i j))) }
+    ensures bound { result ≤ 1024 }
+{
     let (first, end) = rows;
     let flip = if held { u32::MAX } else { 0 };
     let mut n = 0;

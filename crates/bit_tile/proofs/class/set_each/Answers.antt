@@ -4,15 +4,9 @@ use Rattle.bit_tile.specs.Tile.{cell_changes}
 use Rattle.bit_tile.proofs.Bits.{bit-zero}
 use Rattle.bit_tile.proofs.Words32.{bit-ones}
 use Rattle.bit_tile.proofs.Classes.{rows_more_within}
-use Rattle.bit_tile.proofs.SetRows.{before_first, none_before, none_in_row, above_first, of_row, row_is, kept_below, no_column_sets, no_column_counts, one_row_more, row_bit, changed_count, changed_few, counts_of_all}
-use Rattle.bit_tile.proofs.class.set_rows.Goals as goal
-use Rattle.bit_tile.proofs.class.set_rows.Goals.{then-held, else-held}
-
-pub returns-then-word-eq0-clause-cells : goal.returns-then-word-eq0-clause-cells
-returns-then-word-eq0-clause-cells c = λ i j _ _. no_column_sets c.args.word c.args.rows.0 c.args.rows.1 i j _ _ c.if-word-eq0.true
-
-pub returns-then-word-eq0-clause-count : goal.returns-then-word-eq0-clause-count
-returns-then-word-eq0-clause-count c = no_column_counts c.args.word c.args.rows.0 c.args.rows.1 _ c.if-word-eq0.true
+use Rattle.bit_tile.proofs.SetRows.{before_first, none_before, none_in_row, above_first, of_row, row_is, kept_below, one_row_more, row_bit, changed_count, changed_few, counts_of_all}
+use Rattle.bit_tile.proofs.class.set_each.Goals as goal
+use Rattle.bit_tile.proofs.class.set_each.Goals.{then-held, else-held}
 
 pub loop-j-init : goal.loop-j-init
 loop-j-init c =
