@@ -1,5 +1,5 @@
 -- What is taken and what moves, added up: in any order, in the accounts that are kept, and of how many particles.
-use Rattle.std.proofs.Common.{◌≡◌, ℕ, ◌+◌, ◌≤◌, ◌^◌, Bool, true, false, ℤ, pos, refl, ap₂, arith}
+use Rattle.std.proofs.Common.{◌≡◌, ℕ, ◌+◌, ◌≤◌, ◌^◌, Bool, true, false, ℤ, pos, refl, sym, ap₂, subst, arith}
 use Rattle.std.proofs.lemmas.Int.{ints}
 use Rattle.gas_terms.specs.Accounts.{plus, pair_plus, took_plus, moved_plus, TakenFits, SumsFit, IsOfAtMost, IsTakenOfAtMost}
 use Rattle.gas_terms.specs.Accounts as accounts
@@ -132,6 +132,11 @@ sums_fit n s few small = let count = few.count in (omega (arith, ints, count), o
 
 pub took_fits : (m n : ℕ) (a b : Took) → IsTakenOf m a → IsTakenOf n b → m + n ≤ 2 ^ 48 → TakenFits (pair_plus a.walls b.walls) × TakenFits (pair_plus a.obstacles b.obstacles)
 took_fits m n a b p q small = let all = took_few m n a b p q in (pair_fits (m + n) _ all.walls small, pair_fits (m + n) _ all.obstacles small)
+
+-- the same in the accounts that are kept
+pub counted_fit : (m n : ℕ) (kept : Counted) (took here a b : Took) → took ≡ counted_of kept a → here ≡ counted_of kept b → IsTakenOf m a → IsTakenOf n b → m + n ≤ 2 ^ 48
+    → TakenFits (pair_plus took.walls here.walls) × TakenFits (pair_plus took.obstacles here.obstacles)
+counted_fit m n kept took here a b e f p q small = took_fits m n took here (subst (IsTakenOf m) (sym e) (counted_few m kept a p)) (subst (IsTakenOf n) (sym f) (counted_few n kept b q)) small
 
 pub moved_fits : (m n : ℕ) (a b : Moved) → IsMovedOf m a → IsMovedOf n b → m + n ≤ 2 ^ 48 → SumsFit (plus a.injected b.injected) × SumsFit (plus a.drained b.drained)
 moved_fits m n a b p q small = let all = moved_few m n a b p q in (sums_fit (m + n) _ all.injected small, sums_fit (m + n) _ all.drained small)

@@ -17,6 +17,7 @@ pub mod Balances
 pub mod SolidBlocks
 pub mod Others
 pub mod Together
+pub mod RowCounts
 pub mod RowRuns
 pub mod MadeCells
 pub mod OwnTiles

@@ -7,7 +7,8 @@ use Rattle.bit_tile.specs.declared.Tile.{Tile}
 use Rattle.gas_plane.specs.Planes.{IsLattice, IsTileFrom}
 use Rattle.gas_plane.proofs.Places.{wide, high, cell_below}
 use Rattle.gas_plane.proofs.Sweeps.{left_of, top_of}
-use Rattle.phase_step.specs.Parts.{start_of, row_in, own_rows, tile_in, IsPlaced, IsOwn, IsPartOf}
+use Rattle.phase_step.specs.Parts.{start_of, row_in, own_rows, tile_in, AreOwn, AreTilesOf, IsPlaced, IsOwn, IsPartOf}
+use Rattle.phase_step.specs.declared.parts.OwnTiles.{OwnTiles}
 use Rattle.phase_step.specs.declared.parts.Part.{Part}
 use Rattle.phase_step.proofs.PhaseSweeps.{tiles_as}
 
@@ -123,18 +124,18 @@ module _ (part : Part) (cells lattice : Cells) (i : ℕ) (sized : is_size (exten
       ap (λ n. n * 64 + y) row_there ∙ (let f : (part.first + (i / (cells.width / 64) - part.margin)) * 64 + y ≡ part.first * 64 + (top_of cells i + y - part.margin * 64) = omega (arith, l) in f ∙ sym e)
 
 -- it has the lattice's cells
+own_cell : (part : Part) (cells lattice : Cells) (i x y : ℕ) → is_size (extent cells) ≡ true → IsPartOf part cells lattice 64 → IsOwn part cells i → x < 64 → y < 64
+    → (let r = tile_rectangle lattice (tile_in part (lattice.width / 64) i) in has cells (left_of cells i + x) (top_of cells i + y) ≡ has lattice (r.x + x) (r.y + y))
+own_cell part cells lattice i x y sized is own h k =
+    let at = own_low part cells lattice i sized is.placed own y k in
+    let across = wide (extent cells) sized in
+    let right = cell_below cells.width (i % (cells.width / 64)) x across (mod-lt i across.some) h in
+    is.rows.row (left_of cells i + x) (top_of cells i + y) (omega (arith, right, is.placed.wide)) at.0 at.1
+    ∙ sym (ap₂ (has lattice) (cell_column part cells lattice i sized is.placed own x) (cell_row part cells lattice i sized is.placed own y k))
+
 pub own_cells : (part : Part) (cells lattice : Cells) (i : ℕ) (t : Tile) → is_size (extent cells) ≡ true → IsPartOf part cells lattice 64 → IsOwn part cells i → IsTileFrom t cells (left_of cells i) (top_of cells i)
     → (let r = tile_rectangle lattice (tile_in part (lattice.width / 64) i) in IsTileFrom t lattice r.x r.y)
-own_cells part cells lattice i t sized is own from =
-    record {
-      cell = λ x y h k.
-          let at = own_low part cells lattice i sized is.placed own y k in
-          let across = wide (extent cells) sized in
-          let right = cell_below cells.width (i % (cells.width / 64)) x across (mod-lt i across.some) h in
-          from.cell x y h k
-          ∙ (is.rows.row (left_of cells i + x) (top_of cells i + y) (omega (arith, right, is.placed.wide)) at.0 at.1
-          ∙ sym (ap₂ (has lattice) (cell_column part cells lattice i sized is.placed own x) (cell_row part cells lattice i sized is.placed own y k)));
-    }
+own_cells part cells lattice i t sized is own from = record { cell = λ x y h k. from.cell x y h k ∙ own_cell part cells lattice i x y sized is own h k }
 
 -- they are all but the margins'
 pub own_counted : (part : Part) (cells lattice : Cells) (tiles across : ℕ) → IsPlaced part cells lattice → tiles ≡ tile_count cells → across ≡ cells.width / 64 → tiles - part.margin * across - part.margin * across ≡ own_rows part cells * (cells.width / 64)
@@ -170,6 +171,20 @@ there_is part cells lattice i first there placed e f = ap₂ (λ m n. n + (i - m
 
 pub own_number : (part : Part) (cells lattice : Cells) (i first : ℕ) → IsPlaced part cells lattice → first ≡ part.margin * (cells.width / 64) → tile_in part (lattice.width / 64) i ≡ part.first * (lattice.width / 64) + (i - first)
 own_number part cells lattice i first placed e = ap (λ f. part.first * (lattice.width / 64) + (i - f)) (ap (λ w. part.margin * (w / 64)) (sym placed.wide) ∙ sym e)
+
+-- these tiles together
+pub own_tiles_of : (part : Part) (walls cells lattice : Cells) (own : OwnTiles) → is_size (extent cells) ≡ true → AreOwn part cells own → IsPartOf part cells lattice 64 → HasSidesOf walls lattice → AreTilesOf own walls cells lattice
+own_tiles_of part walls cells lattice own sized are is sides =
+    record {
+      is = lattice_is part cells lattice 64 is;
+      sides = sides;
+      within = are.inside lattice is.sized is.placed;
+      cell = λ k x y less h l.
+          let i = own.first + k in
+          let there : tile_in part (lattice.width / 64) i ≡ own.there + k = sym (there_is part cells lattice i own.first own.there is.placed are.first are.there) ∙ omega arith in
+          own_cell part cells lattice i x y sized is (are.each i (omega arith) (omega (arith, less))) h l
+          ∙ ap (λ j. has lattice ((tile_rectangle lattice j).x + x) ((tile_rectangle lattice j).y + y)) there;
+    }
 
 pub there_below : (lattice set : Cells) (first end there i : ℕ) → HasSidesOf set lattice → there + (end - first) ≤ tile_count lattice → first ≤ i → i < end → there + (i - first) < tile_count set
 there_below lattice set first end there i sides inside from to = let e = tiles_as set lattice sides in omega (arith, inside, from, to, e)

@@ -25,7 +25,7 @@ use Rattle.phase_step.specs.TileRuns.{tile_moves, tiles_move, phase_flow, tiles_
 use Rattle.phase_step.specs.declared.sums.flow.Flow.{Flow}
 use Rattle.phase_step.proofs.ActionRuns.{sized_with, count_with}
 use Rattle.phase_step.proofs.Amounts.{sum_same, sum_from_zero, sum_few, each_below, sum_as, sum_split, sum_both}
-use Rattle.phase_step.proofs.FlowSums.{pair_same, took_same, same_moved, same_flow, totals, takings_add, movements_add, flows_add, counted_plus, flows_counted, IsTakenOf, IsMovedOf, IsFlowOf, none_taken, none_moved, took_few, moved_few, flow_few, counted_few, took_fits, flows_fit}
+use Rattle.phase_step.proofs.FlowSums.{pair_same, took_same, same_moved, same_flow, totals, takings_add, movements_add, flows_add, counted_plus, flows_counted, IsTakenOf, IsMovedOf, IsFlowOf, none_taken, none_moved, took_few, moved_few, flow_few, counted_fit, flows_fit}
 use Rattle.phase_step.proofs.PhaseSweeps.{even_sides, whole_tiles}
 
 -- the particles of a tile
@@ -83,8 +83,7 @@ take_next p c w o kept first from i took here low so_far e =
 pub take_fits : (p : ℕ) (c w o : Cells) (kept : Counted) (first n i : ℕ) (took here : Took) → n ≤ 4096 → took ≡ counted_of kept (tiles_take p c w o first n) → here ≡ counted_of kept (taken_in (pos p) c w o (tile_rectangle c i))
     → TakenFits (pair_plus took.walls here.walls) × TakenFits (pair_plus took.obstacles here.obstacles)
 take_fits p c w o kept first n i took here few so_far e =
-    took_fits (16384 * n) 16384 took here (subst (IsTakenOf (16384 * n)) (sym so_far) (counted_few (16384 * n) kept _ (tiles_take_few p c w o first n)))
-    (subst (IsTakenOf 16384) (sym e) (counted_few 16384 kept _ (tile_takes_few p c w o i))) (omega arith)
+    counted_fit (16384 * n) 16384 kept took here _ _ so_far e (tiles_take_few p c w o first n) (tile_takes_few p c w o i) (omega arith)
 
 -- sums of two kinds over the first n tiles
 tiles_below : (f g : ℕ → Sums) (n : ℕ) → sum_first movements (λ i. record { injected = f i; drained = g i }) n

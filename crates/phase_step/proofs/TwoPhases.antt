@@ -5,12 +5,9 @@ use Rattle.std.proofs.lemmas.Bool.{cases_eq}
 use Rattle.gas_terms.specs.Cells.{Cells, HasSidesOf, has, extent, is_size, tile_count, IsFull}
 use Rattle.gas_terms.proofs.Cells.{same_cells}
 use Rattle.gas_plane.proofs.Places.{high, cell_below}
-use Rattle.phase_step.specs.OddPhase.{IsRowThere, HasRow, HasInner, HasSeam, IsEvenRowTurned, IsBegunTurned, begins_in, AreTurnedTwice, IsNextTurned, once_turned, twice_turned}
+use Rattle.phase_step.specs.OddPhase.{IsRowThere, HasRow, HasInner, HasSeam, IsEvenRowTurned, IsBegunTurned, begins_in, AreTurnedTwice, IsNextTurned, once_turned, twice_turned, place_in_whole}
 use Rattle.phase_step.specs.declared.odd_phase.RowPlace.{RowPlace}
 use Rattle.phase_step.proofs.OddParts.{above, below_is, inner_begins, seam_begins, begins_cases, top_in, inner_at, seam_at}
-
-abbrev pub place_in_whole : Cells → ℕ → RowPlace
-place_in_whole cells row = record { row = row; below = (row + 1) % (cells.height / 64); there = row }
 
 pub place_in_whole_is : (place : RowPlace) (cells : Cells) (row : ℕ) → place.row ≡ row → place.below ≡ (row + 1) % (cells.height / 64) → place.there ≡ row → place ≡ place_in_whole cells row
 place_in_whole_is place cells row e f g = grind (arith)

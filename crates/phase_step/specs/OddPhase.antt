@@ -192,8 +192,16 @@ once_turned solid old = streamed 0 old solid
 abbrev pub twice_turned : Cells → Cells → Cells
 twice_turned solid old = streamed 1 (once_turned solid old) solid
 
-abbrev pub TurnsNext : ℕ → Cells → Cells → Cells → Type 0
-TurnsNext row solid now new = (old : Cells) → IsLattice old → AreTurnedTwice row (once_turned solid old) (twice_turned solid old) old now → IsNextTurned row (once_turned solid old) (twice_turned solid old) old new
+-- where a row of tiles of a whole lattice stands
+abbrev pub place_in_whole : Cells → ℕ → RowPlace
+place_in_whole cells row = record { row = row; below = (row + 1) % (cells.height / 64); there = row }
+
+-- The row of tiles is the other lattice's.
+abbrev pub IsRowOf : ℕ → Cells → Cells → Type 0
+IsRowOf row cells lattice = HasRow (place_in_whole lattice row) lattice.width cells lattice
+
+abbrev pub TurnsFirst : ℕ → Cells → Cells → Cells → Type 0
+TurnsFirst row solid now new = (old : Cells) → IsLattice old → HasSidesOf now old → IsRowOf row now old → IsEvenRowTurned (place_in_whole old row) (once_turned solid old) now new
 
 abbrev pub TurnsSecond : ℕ → Cells → Cells → Cells → Type 0
 TurnsSecond row solid now new = (old : Cells) → IsLattice old → IsNextTurned row (once_turned solid old) (twice_turned solid old) old now → AreTurnedTwice (row + 1) (once_turned solid old) (twice_turned solid old) old new

@@ -1,9 +1,10 @@
 -- Parts of a lattice: some of its rows of tiles, one after another round its torus. A strip is one, and so is the whole lattice.
 use Rattle.std.specs.Prelude.{◌≡◌, ℕ, ◌+◌, ◌-◌, ◌*◌, ◌/◌, ◌%◌, ◌<◌, ◌≤◌, true, pos}
-use Rattle.gas_terms.specs.Cells.{Cells, HasSidesOf, has, extent, is_size, tile_count, IsFull}
+use Rattle.gas_terms.specs.Cells.{Cells, HasSidesOf, has, extent, is_size, tile_count, tile_rectangle, IsFull}
 use Rattle.gas_terms.specs.Gas.{streamed}
 use Rattle.gas_terms.specs.declared.accounts.Took.{Took}
 use Rattle.gas_terms.specs.declared.accounts.Moved.{Moved}
+use Rattle.gas_plane.specs.Planes.{IsLattice}
 use Rattle.block_rule.specs.declared.walled.Counted.{Counted}
 use Rattle.phase_step.specs.Runs.{tiles_take}
 use Rattle.phase_step.specs.Balance.{flow_counted}
@@ -60,6 +61,21 @@ pub record AreOwn (part : Part) (cells : Cells) (own : OwnTiles) : Type 0 where
   pub few : own.there + (own.end - own.first) ≤ 4096
   pub inside : (lattice : Cells) → is_size (extent lattice) ≡ true → IsPlaced part cells lattice
       → own.there + (own.end - own.first) ≤ tile_count lattice
+
+-- These tiles of the cells are the lattice's from tile `there` on, and the lattice has walls like these.
+pub record AreTilesOf (own : OwnTiles) (walls cells lattice : Cells) : Type 0 where
+  pub is : IsLattice lattice
+  pub sides : HasSidesOf walls lattice
+  pub within : own.there + (own.end - own.first) ≤ tile_count lattice
+  pub cell : (k x y : ℕ) → k < own.end - own.first → x < 64 → y < 64 →
+      let here = tile_rectangle cells (own.first + k) in
+      let there = tile_rectangle lattice (own.there + k) in
+      has cells (here.x + x) (here.y + y) ≡ has lattice (there.x + x) (there.y + y)
+
+-- and so with some lattice
+pub record AreTilesOfSome (own : OwnTiles) (walls cells : Cells) : Type 0 where
+  pub lattice : Cells
+  pub are : AreTilesOf own walls cells lattice
 
 -- what n phases come to in the part's own tiles
 abbrev pub own_flow : Part → Dynamics → Cells → Cells → ℕ → Flow

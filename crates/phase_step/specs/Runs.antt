@@ -1,5 +1,5 @@
 -- Runs of phases, one after another, whose parities alternate.
-use Rattle.std.specs.Prelude.{ℕ, zero, suc, ◌+◌, ◌%◌, pos, ◌+ℤ◌, ◌-ℤ◌}
+use Rattle.std.specs.Prelude.{ℕ, zero, suc, ◌+◌, ◌*◌, ◌/◌, ◌%◌, pos, ◌+ℤ◌, ◌-ℤ◌}
 use Rattle.gas_terms.specs.Velocity.{parity}
 use Rattle.gas_terms.specs.Cells.{Cells, joined, tile_rectangle}
 use Rattle.gas_terms.specs.Gas.{Gas, streamed, solid}
@@ -34,6 +34,19 @@ run_takes p walls obstacles particles n =
 abbrev pub tiles_take : ℕ → Cells → Cells → Cells → ℕ → ℕ → Took
 tiles_take p particles walls obstacles first n =
     sum_first takings (λ i. taken_in (pos p) particles walls obstacles (tile_rectangle particles (first + i))) n
+
+-- and of those of a row of tiles
+abbrev pub row_take : ℕ → Cells → Cells → Cells → ℕ → Took
+row_take p particles walls obstacles row = let across = particles.width / 64 in tiles_take p particles walls obstacles (row * across) across
+
+-- what they take of a row in the phases of parity 0 and 1, and of all particles
+abbrev pub row_takes : Cells → Cells → Cells → ℕ → Took
+row_takes particles walls obstacles row =
+    took_plus (row_take 0 particles walls obstacles row) (row_take 1 (streamed 0 particles (joined walls obstacles)) walls obstacles row)
+
+abbrev pub both_taken : Cells → Cells → Cells → Took
+both_taken particles walls obstacles =
+    took_plus (taken 0 particles walls obstacles) (taken 1 (streamed 0 particles (joined walls obstacles)) walls obstacles)
 
 -- a gas n ticks later, on which no port acted, and what walls and obstacles took on the way
 abbrev pub gas_after : ℕ → Gas → Gas

@@ -5,15 +5,15 @@ ghost use Rattle.phase_step.specs.WholeRuns.{dynamics, CanRun, HasRunWhole};
 
 use crate::exchanges::Action;
 use crate::parts::acting::act_after;
-use crate::parts::counting::count_part;
+use crate::parts::counting::{Counting, count_part};
 use crate::parts::sweeping::turn_on;
 use crate::parts::turning::turn_part;
 use crate::parts::{Part, whole};
-use crate::steps::KnownSolid;
 use crate::sums::Flow;
 use crate::{Run, parity_at};
 use block_rule::Counted;
 use gas_plane::Plane;
+use gas_terms::Moved;
 
 /// A run on a part of a lattice, in place. A part with margins makes one phase at most. Returns
 /// what it comes to in the part's own tiles; an account that is not kept has 0.
@@ -32,13 +32,12 @@ pub fn run_part<A: Action>(
         let d = dynamics r.parity r.solids.now (A.leaves r.action.now) in
         HasRunPart (part_run part counted d r.n) particles.old particles.new result }
 {
-    let known = KnownSolid::of(run.solids);
-    let is_counted = run.solids.is_counted(counted);
+    let counting = Counting::of(run.solids, counted);
     let mut flow = Flow::ZERO;
     for k in 0..run.n {
         let now = parity_at(run.parity, k);
-        let took = count_part(particles, run.solids, part, now, counted, is_counted);
-        turn_part(particles, known, part, now);
+        let took = count_part(particles, counting, part, now);
+        turn_part(particles, counting.known, part, now);
         let moved = act_after(particles, run.action, k, part, 1 - now);
         flow = flow.plus(Flow { took, moved });
     }
@@ -54,9 +53,12 @@ pub fn run_whole<A: Action>(particles: &mut Plane, run: Run<'_, A>, counted: Cou
         particles.old particles.new result }
 {
     particles.shows_lattice();
-    if !run.action.acts() && !run.solids.is_counted(counted) {
-        turn_on(particles, KnownSolid::of(run.solids), run.parity, run.n);
-        return Flow::ZERO;
+    if !run.action.acts() {
+        let counting = Counting::of(run.solids, counted);
+        return Flow {
+            took: turn_on(particles, counting, run.parity, run.n),
+            moved: Moved::ZERO,
+        };
     }
     let part = whole(particles);
     let flow = run_part(particles, part, run, counted);

@@ -1,19 +1,24 @@
 //! Phases of a whole lattice, two in one sweep: a row of tiles turns at parity 0 just before the one above it turns at
-//! parity 1, while both are in the cache.
+//! parity 1, while both are in the cache. What is taken of a row in both is counted then too.
 
 ghost use Rattle.std.specs.Prelude.{◌≡◌, ◌+◌, ◌/◌, ◌%◌, ◌<◌, ◌≤◌};
 ghost use Rattle.gas_terms.specs.Cells.{Cells, HasSidesOf};
 ghost use Rattle.gas_terms.specs.Gas.{streamed};
-ghost use Rattle.phase_step.specs.OddPhase.{TurnsNext, TurnsSecond, TurnsTwice};
-ghost use Rattle.phase_step.specs.Runs.{particles_after};
+ghost use Rattle.gas_terms.specs.Accounts.{taken};
+ghost use Rattle.block_rule.specs.Accounts.{counted_of};
+ghost use Rattle.gas_plane.specs.Planes.{IsLattice};
+ghost use Rattle.phase_step.specs.OddPhase.{AreTurnedTwice, IsRowOf, TurnsFirst, TurnsSecond, TurnsTwice, once_turned, twice_turned};
+ghost use Rattle.phase_step.specs.Runs.{both_taken, particles_after, row_takes, run_takes};
 ghost use Rattle.phase_step.specs.Solid.{all_of};
 
 use crate::odd_phase::RowPlace;
+use crate::parts::counting::{Counting, count_part, count_row};
 use crate::parts::rows::{turn_begun, turn_even};
 use crate::parts::turning::turn_part;
 use crate::parts::whole;
 use crate::steps::KnownSolid;
 use gas_plane::{Plane, after};
+use gas_terms::Took;
 
 // Where a row of tiles of the whole lattice stands.
 fn place_of(row: u32, down: u32) -> RowPlace
@@ -29,17 +34,22 @@ fn place_of(row: u32, down: u32) -> RowPlace
     }
 }
 
-// The row of tiles below this one turns at parity 0.
-fn turn_next(particles: &mut Plane, known: KnownSolid<'_>, row: u32)
+// A row of tiles turns at parity 0. Returns what is taken of it then, and in the next phase.
+fn turn_first(particles: &mut Plane, counting: Counting<'_>, row: u32) -> Took
     requires row { row < particles.old.height / 64 }
-    requires solid { HasSidesOf (all_of known.solids.now) particles.old }
+    requires solid { HasSidesOf (all_of counting.known.solids.now) particles.old }
     ensures sides { HasSidesOf particles.new particles.old }
-    ensures turned { TurnsNext row (all_of known.entry.solids.now) particles.old particles.new }
+    ensures turned { let solid = all_of counting.entry.known.solids.now in
+        TurnsFirst row solid particles.old particles.new }
+    ensures took { let s = counting.entry.known.solids.now in (old : Cells) → IsLattice old →
+        HasSidesOf particles.old old → IsRowOf row particles.old old →
+        result ≡ counted_of counting.entry.counted (row_takes old s.walls s.obstacles row) }
 {
-    let down = particles.down();
-    if row + 1 < down {
-        turn_even(particles, known, place_of(row + 1, down));
-    }
+    let place = place_of(row, particles.down());
+    let even = count_row(particles, counting, row, 0);
+    turn_even(particles, counting.known, place);
+    let odd = count_row(particles, counting, row, 1);
+    even.plus(odd)
 }
 
 // This row of tiles turns at parity 1, after the one below it at parity 0.
@@ -53,65 +63,101 @@ fn turn_second(particles: &mut Plane, known: KnownSolid<'_>, row: u32)
     turn_begun(particles, known, place);
 }
 
-fn turn_twice(particles: &mut Plane, known: KnownSolid<'_>, row: u32)
-    requires row { row < particles.old.height / 64 }
-    requires solid { HasSidesOf (all_of known.solids.now) particles.old }
+// The row of tiles below this one turns at parity 0, and then this one at parity 1. Returns what is taken of the one below.
+fn turn_twice(particles: &mut Plane, counting: Counting<'_>, row: u32) -> Took
+    requires row { (row < 64) × (row + 1 < particles.old.height / 64) }
+    requires solid { HasSidesOf (all_of counting.known.solids.now) particles.old }
     ensures sides { HasSidesOf particles.new particles.old }
-    ensures turned { TurnsTwice row (all_of known.entry.solids.now) particles.old particles.new }
+    ensures turned { let solid = all_of counting.entry.known.solids.now in
+        TurnsTwice row solid particles.old particles.new }
+    ensures took { let s = counting.entry.known.solids.now in
+        let solid = all_of s in (old : Cells) → IsLattice old →
+        AreTurnedTwice row (once_turned solid old) (twice_turned solid old) old particles.old →
+        result ≡ counted_of counting.entry.counted (row_takes old s.walls s.obstacles (row + 1)) }
 {
-    turn_next(particles, known, row);
-    turn_second(particles, known, row);
+    let took = turn_first(particles, counting, row + 1);
+    turn_second(particles, counting.known, row);
+    took
 }
 
-// The phases of parity 0 and 1.
-fn turn_both(particles: &mut Plane, known: KnownSolid<'_>)
-    requires solid { HasSidesOf (all_of known.solids.now) particles.old }
-    ensures { let solid = all_of known.entry.solids.now in
+// The phases of parity 0 and 1. Returns what is taken in both.
+fn turn_both(particles: &mut Plane, counting: Counting<'_>) -> Took
+    requires solid { HasSidesOf (all_of counting.known.solids.now) particles.old }
+    ensures particles { let solid = all_of counting.entry.known.solids.now in
         particles.new ≡ streamed 1 (streamed 0 particles.old solid) solid }
+    ensures took { let s = counting.entry.known.solids.now in
+        result ≡ counted_of counting.entry.counted
+        (both_taken particles.old s.walls s.obstacles) }
 {
-    let down = particles.down();
-    turn_even(particles, known, place_of(0, down));
-    for row in 0..down {
-        turn_twice(particles, known, row);
+    let last = particles.down() - 1;
+    let mut took = turn_first(particles, counting, 0);
+    for row in 0..last {
+        let here = turn_twice(particles, counting, row);
+        took = took.plus(here);
     }
+    turn_second(particles, counting.known, last);
     particles.shows_lattice();
+    took
 }
 
-// A phase of the whole lattice.
-fn turn_whole(particles: &mut Plane, known: KnownSolid<'_>, parity: u8)
+// A phase of the whole lattice. Returns what is taken in it.
+fn turn_whole(particles: &mut Plane, counting: Counting<'_>, parity: u8) -> Took
     requires parity { parity < 2 }
-    requires solid { HasSidesOf (all_of known.solids.now) particles.old }
-    ensures { particles.new ≡ streamed parity particles.old (all_of known.entry.solids.now) }
+    requires solid { HasSidesOf (all_of counting.known.solids.now) particles.old }
+    ensures particles { let solid = all_of counting.entry.known.solids.now in
+        particles.new ≡ streamed parity particles.old solid }
+    ensures took { let s = counting.entry.known.solids.now in
+        result ≡ counted_of counting.entry.counted
+        (taken parity particles.old s.walls s.obstacles) }
 {
     let part = whole(particles);
-    turn_part(particles, known, part, parity);
+    let took = count_part(particles, counting, part, parity);
+    turn_part(particles, counting.known, part, parity);
     particles.shows_lattice();
+    took
 }
 
-// So many phases, of which the first has parity 0.
-fn turn_from_even(particles: &mut Plane, known: KnownSolid<'_>, n: u16)
-    requires solid { HasSidesOf (all_of known.solids.now) particles.old }
-    ensures { particles.new ≡ particles_after 0 (all_of known.entry.solids.now) particles.old n }
+// So many phases, of which the first has parity 0. Returns what is taken in them.
+fn turn_from_even(particles: &mut Plane, counting: Counting<'_>, n: u16) -> Took
+    requires solid { HasSidesOf (all_of counting.known.solids.now) particles.old }
+    ensures particles { let solid = all_of counting.entry.known.solids.now in
+        particles.new ≡ particles_after 0 solid particles.old n }
+    ensures took { let s = counting.entry.known.solids.now in
+        result ≡ counted_of counting.entry.counted
+        (run_takes 0 s.walls s.obstacles particles.old n) }
 {
+    particles.shows_lattice();
+    let mut took = Took::ZERO;
     for _pair in 0..n / 2 {
-        turn_both(particles, known);
+        let here = turn_both(particles, counting);
+        took = took.plus(here);
     }
     if n % 2 == 1 {
-        turn_whole(particles, known, 0);
+        let here = turn_whole(particles, counting, 0);
+        took = took.plus(here);
     }
+    took
 }
 
-/// So many phases of the whole lattice, of which the first has this parity. Nothing is counted, and nothing acts between them.
-pub fn turn_on(particles: &mut Plane, known: KnownSolid<'_>, parity: u8, n: u16)
+/// So many phases of the whole lattice, of which the first has this parity, without an action between them. Returns what is taken
+/// in them, in the accounts that are kept.
+pub fn turn_on(particles: &mut Plane, counting: Counting<'_>, parity: u8, n: u16) -> Took
     requires parity { parity < 2 }
-    requires solid { HasSidesOf (all_of known.solids.now) particles.old }
-    ensures { particles.new ≡
-        particles_after parity (all_of known.entry.solids.now) particles.old n }
+    requires solid { HasSidesOf (all_of counting.known.solids.now) particles.old }
+    ensures particles { let solid = all_of counting.entry.known.solids.now in
+        particles.new ≡ particles_after parity solid particles.old n }
+    ensures took { let s = counting.entry.known.solids.now in
+        result ≡ counted_of counting.entry.counted
+        (run_takes parity s.walls s.obstacles particles.old n) }
 {
+    particles.shows_lattice();
     if parity == 0 {
-        turn_from_even(particles, known, n);
-    } else if n > 0 {
-        turn_whole(particles, known, 1);
-        turn_from_even(particles, known, n - 1);
+        return turn_from_even(particles, counting, n);
     }
+    if n == 0 {
+        return Took::ZERO;
+    }
+    let first = turn_whole(particles, counting, 1);
+    let rest = turn_from_even(particles, counting, n - 1);
+    first.plus(rest)
 }

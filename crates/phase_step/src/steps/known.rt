@@ -20,7 +20,7 @@ pub struct KnownSolid<'a> {
 impl<'a> KnownSolid<'a> {
     /// What is known of these cells.
     pub fn of(solids: &'a Solids) -> KnownSolid<'a>
-        ensures { all_of result.solids.now ≡ all_of solids.now }
+        ensures { result.solids.now ≡ solids.now }
     {
         KnownSolid {
             solids,

@@ -1,8 +1,14 @@
-use Rattle.std.proofs.Common.{◌≡◌, ◌+◌, ◌-◌, sym, subst, arith, refl}
+use Rattle.std.proofs.Common.{◌≡◌, ℕ, ◌+◌, ◌-◌, sym, subst, arith, refl}
 use Rattle.gas_terms.specs.Cells.{Cells, HasSidesOf, joined}
 use Rattle.gas_terms.specs.Gas.{streamed}
 use Rattle.phase_step.specs.Actions.{flow_plus}
-use Rattle.phase_step.specs.Parts.{part_run, IsPartOf, IsReady, IsTurned, HasRun}
+use Rattle.phase_step.specs.Solid.{all_of}
+use Rattle.phase_step.specs.declared.parts.Part.{Part}
+use Rattle.phase_step.specs.declared.steps.solids.Solids.{Solids}
+use Rattle.gas_terms.specs.declared.accounts.Took.{Took}
+use Rattle.block_rule.specs.Accounts.{counted_of}
+use Rattle.block_rule.specs.declared.walled.Counted.{Counted}
+use Rattle.phase_step.specs.Parts.{own_take, part_run, IsPartOf, IsReady, IsTurned, HasRun}
 use Rattle.phase_step.specs.WholeRuns.{dynamics, after_all}
 use Rattle.phase_step.specs.declared.sums.flow.Flow.{Flow}
 use Rattle.phase_step.proofs.RowRuns.{IsPartPhase, run_begins, run_next, run_fits, own_few, sides_on, sides_there, ready_again}
@@ -22,6 +28,10 @@ loop-k-init g c =
           let f : run.parity ≡ q = let small = c.requires.parity in omega (arith, small, e) in subst (λ p. IsPartOf c.args.part c.args.particles.now lattice (64 - p)) f is;
     }
 
+-- what is taken of a part's own tiles, of whatever lattice it is
+abbrev TakesOf : Counted → Part → ℕ → Solids → Cells → Took → Type 0
+TakesOf counted part p s cells took = (lattice : Cells) → HasSidesOf s.walls lattice → IsPartOf part cells lattice 64 → took ≡ counted_of counted (own_take part p cells lattice s.walls s.obstacles)
+
 -- the phase and the action after it
 phase_made : (g : Over) (c : After-act_after-moved g) (lattice : Cells) → HasSidesOf c.args.run.solids.now.walls lattice → IsPartOf c.args.part c.args.particles.now lattice (64 - c.args.run.parity)
     → IsPartPhase c.args.part c.args.counted (dynamics c.args.run.parity c.args.run.solids.now (g.A.Action.leaves c.args.run.action.now)) c.parity_at-now.result c.loop-k.k lattice c.args.particles.now c.loop-k.particles c.turn_part.new.particles c.act_after-moved.new.particles c.loop-k.flow (record { took = c.count_part-took.result; moved = c.act_after-moved.result })
@@ -34,8 +44,12 @@ phase_made g c lattice of_walls start =
     let solid = joined s.walls s.obstacles in
     let sides = sides_there c.args.run.parity s.walls s.obstacles (g.A.Action.leaves c.args.run.action.now) lattice c.loop-k.k of_walls in
     let streamed_there : Cells = streamed c.parity_at-now.result there solid in
+    let counting = c.of-counting in
     let turned : IsTurned c.args.part c.parity_at-now.result solid c.loop-k.particles c.turn_part.new.particles =
-    subst (λ (solid : Cells). IsTurned c.args.part c.parity_at-now.result solid c.loop-k.particles c.turn_part.new.particles) c.of-known.ensures c.turn_part.ensures.phase in
+    subst (λ (s : Solids). IsTurned c.args.part c.parity_at-now.result (all_of s) c.loop-k.particles c.turn_part.new.particles) counting.ensures.solids c.turn_part.ensures.phase in
+    let took : TakesOf c.args.counted c.args.part c.parity_at-now.result s c.loop-k.particles c.count_part-took.result =
+    subst (λ kept. TakesOf kept c.args.part c.parity_at-now.result s c.loop-k.particles c.count_part-took.result) counting.ensures.counted
+    (subst (λ (s : Solids). TakesOf counting.result.counted c.args.part c.parity_at-now.result s c.loop-k.particles c.count_part-took.result) counting.ensures.solids c.count_part-took.ensures) in
     let come = turned there (record { wide = sides.wide; high = sides.high }) ready in
     record {
       small = c.requires.parity;
@@ -44,7 +58,7 @@ phase_made g c lattice of_walls start =
       come_sides = sides_on _ _ _ c.turn_part.ensures.sides c.loop-k.invariant.sides;
       so_far = so_far;
       action = c.act_after-moved.ensures.rows streamed_there come;
-      took = c.count_part-took.ensures there sides (rows_left c.args.part c.loop-k.particles there (64 - c.parity_at-now.result) 64 (mul-le-mul_left c.args.part.margin (omega arith)) ready);
+      took = took there sides (rows_left c.args.part c.loop-k.particles there (64 - c.parity_at-now.result) 64 (mul-le-mul_left c.args.part.margin (omega arith)) ready);
       moved = c.act_after-moved.ensures.moved streamed_there come;
     }
 
@@ -90,7 +104,7 @@ turn_part-requires-clause-ready g c =
     let s = run.solids.now in
     let h = c.requires.ready in
     let leaves = g.A.Action.leaves run.action.now in
-    subst (λ (solid : Cells). IsReady c.args.part solid c.loop-k.particles (64 - c.parity_at-now.result)) (sym c.of-known.ensures)
+    subst (λ (s : Solids). IsReady c.args.part (all_of s) c.loop-k.particles (64 - c.parity_at-now.result)) (sym c.of-counting.ensures.solids)
     (record {
       lattice = after_all (dynamics run.parity s leaves) h.lattice c.loop-k.k;
       is = c.loop-k.invariant.ready h.lattice c.parity_at-now.result h.sides h.is (omega arith) c.parity_at-now.ensures.parity;
@@ -104,12 +118,13 @@ count_part-took-requires-clause-ready g c =
     let h = c.requires.ready in
     let leaves = g.A.Action.leaves run.action.now in
     let there = after_all (dynamics run.parity s leaves) h.lattice c.loop-k.k in
-    record {
+    subst (λ (s : Solids). IsReady c.args.part s.walls c.loop-k.particles 64) (sym c.of-counting.ensures.solids)
+    (record {
       lattice = there;
       is = rows_left c.args.part c.loop-k.particles there (64 - c.parity_at-now.result) 64 (mul-le-mul_left c.args.part.margin (omega arith))
           (c.loop-k.invariant.ready h.lattice c.parity_at-now.result h.sides h.is (omega arith) c.parity_at-now.ensures.parity);
       sides = sides_there run.parity s.walls s.obstacles leaves h.lattice c.loop-k.k h.sides;
-    }
+    })
 
 pub act_after-moved-requires-clause-some : goal.act_after-moved-requires-clause-some
 act_after-moved-requires-clause-some g c =
@@ -119,8 +134,9 @@ act_after-moved-requires-clause-some g c =
     let leaves = g.A.Action.leaves run.action.now in
     let there = after_all (dynamics run.parity s leaves) h.lattice c.loop-k.k in
     let solid = joined s.walls s.obstacles in
+    let counting = c.of-counting in
     let turned : IsTurned c.args.part c.parity_at-now.result solid c.loop-k.particles c.turn_part.new.particles =
-    subst (λ (solid : Cells). IsTurned c.args.part c.parity_at-now.result solid c.loop-k.particles c.turn_part.new.particles) c.of-known.ensures c.turn_part.ensures.phase in
+    subst (λ (s : Solids). IsTurned c.args.part c.parity_at-now.result (all_of s) c.loop-k.particles c.turn_part.new.particles) counting.ensures.solids c.turn_part.ensures.phase in
     let sides = sides_there run.parity s.walls s.obstacles leaves h.lattice c.loop-k.k h.sides in
     record {
       lattice = streamed c.parity_at-now.result there solid;

@@ -10,7 +10,7 @@ invariant-loop-k g l =
     let d = dynamics l.run.parity l.run.solids.now (g.A.Action.leaves l.run.action.now) in
     record {
       sides : HasSidesOf l.particles l.initial.particles;
-      run : (lattice : Cells) → HasSidesOf l.run.solids.now.walls lattice → IsPartOf l.part l.initial.particles lattice (64 - l.run.parity) → HasRun (part_run l.part l.counted d l.k) l.initial.particles lattice l.particles l.flow;
+      run : (lattice : Cells) → HasSidesOf l.run.solids.now.walls lattice → IsPartOf l.part l.initial.particles lattice (64 - l.run.parity) → HasRun (part_run l.part l.fn.counted d l.k) l.initial.particles lattice l.particles l.flow;
       ready : (lattice : Cells) (q : ℕ) → HasSidesOf l.run.solids.now.walls lattice → IsPartOf l.part l.initial.particles lattice (64 - l.run.parity) → l.k < l.run.n → q ≡ parity_at l.run.parity l.k
           → IsPartOf l.part l.particles (after_all d lattice l.k) (64 - q);
     }

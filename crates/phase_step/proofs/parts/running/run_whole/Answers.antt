@@ -1,7 +1,10 @@
 use Rattle.std.proofs.Common.{◌≡◌, ◌*◌, ◌-◌, ◌/◌, ◌≤◌, sym, subst, arith}
-use Rattle.gas_terms.specs.Cells.{Cells, HasSidesOf}
+use Rattle.gas_terms.specs.Cells.{HasSidesOf}
 use Rattle.phase_step.specs.Parts.{part_run, HasRun}
-use Rattle.phase_step.specs.Runs.{particles_after}
+use Rattle.block_rule.specs.Accounts.{counted_of}
+use Rattle.phase_step.specs.Runs.{particles_after, run_takes}
+use Rattle.phase_step.specs.Solid.{all_of}
+use Rattle.phase_step.specs.declared.steps.solids.Solids.{Solids}
 use Rattle.phase_step.specs.WholeRuns.{dynamics}
 use Rattle.phase_step.specs.declared.parts.Part.{Part}
 use Rattle.phase_step.proofs.RowRuns.{whole_held, whole_same, whole_flow}
@@ -18,15 +21,18 @@ run_part-flow-requires g c =
 
 pub turn_on-requires-clause-solid : goal.turn_on-requires-clause-solid
 turn_on-requires-clause-solid g c =
-    let s = c.args.run.solids.now in
-    subst (λ (solid : Cells). HasSidesOf solid c.args.particles.now) (sym c.of.ensures) (record { wide = c.requires.walls.wide; high = c.requires.walls.high })
+    subst (λ (s : Solids). HasSidesOf (all_of s) c.args.particles.now) (sym c.of-counting.ensures.solids) (record { wide = c.requires.walls.wide; high = c.requires.walls.high })
 
-pub returns-then-not-is_counted : goal.returns-then-not-is_counted
-returns-then-not-is_counted g c =
+pub returns-then-not-acts : goal.returns-then-not-acts
+returns-then-not-acts g c =
     let run = c.args.run in
-    let s = run.solids.now in
-    still_run (dynamics run.parity s (g.A.Action.leaves run.action.now)) c.args.particles.now c.shows_lattice.ensures (λ k. c.acts.ensures c.if-not-acts.true k) c.args.counted run.n c.turn_on.new.particles c.requires.walls c.requires.obstacles (c.is_counted.ensures c.if-not-is_counted.true)
-    (subst (λ (solid : Cells). c.turn_on.new.particles ≡ particles_after run.parity solid c.args.particles.now run.n) c.of.ensures c.turn_on.ensures)
+    let old = c.args.particles.now in
+    let counting = c.of-counting in
+    let made = c.turn_on.ensures in
+    still_run (dynamics run.parity run.solids.now (g.A.Action.leaves run.action.now)) old c.shows_lattice.ensures (λ k. c.acts.ensures c.if-not-acts.true k) c.args.counted run.n c.turn_on.new.particles c.turn_on.result
+    (subst (λ (s : Solids). c.turn_on.new.particles ≡ particles_after run.parity (all_of s) old run.n) counting.ensures.solids made.particles)
+    (subst (λ kept. c.turn_on.result ≡ counted_of kept (run_takes run.parity run.solids.now.walls run.solids.now.obstacles old run.n)) counting.ensures.counted
+    (subst (λ (s : Solids). c.turn_on.result ≡ counted_of counting.result.counted (run_takes run.parity s.walls s.obstacles old run.n)) counting.ensures.solids made.took))
 
 pub returns : goal.returns
 returns g c =

@@ -45,7 +45,7 @@ turn_own_row-requires-clause-row c =
 pub turn_own_row-requires-clause-solid : goal.turn_own_row-requires-clause-solid
 turn_own_row-requires-clause-solid c =
     let h = c.requires.ready in
-    rows_there c.args.part (all_of c.of-known.result.solids.now) c.args.particles.now c.loop-row.particles h.lattice h.is (subst (λ (s : Cells). HasSidesOf s h.lattice) (sym c.of-known.ensures) h.sides) c.loop-row.invariant.sides
+    rows_there c.args.part (all_of c.of-known.result.solids.now) c.args.particles.now c.loop-row.particles h.lattice h.is (subst (λ (s : Cells). HasSidesOf s h.lattice) (sym (ap all_of c.of-known.ensures)) h.sides) c.loop-row.invariant.sides
 
 pub loop-row-preserved : goal.loop-row-preserved
 loop-row-preserved c =
@@ -67,6 +67,6 @@ returns-clause-phases c = λ lattice of_solid is.
     let strip = c.requires.strip in
     let end = c.loop-row-test.false in
     let most = c.loop-row.auto.row-end in
-    subst (λ (s : Cells). HasSidesOf s lattice → IsPartOf part c.loop-row.particles (streamed 0 (streamed 1 lattice s) s) 64) c.of-known.ensures
+    subst (λ (s : Cells). HasSidesOf s lattice → IsPartOf part c.loop-row.particles (streamed 0 (streamed 1 lattice s) s) 64) (ap all_of c.of-known.ensures)
     (λ of_known. strip_turned part (all_of c.of-known.result.solids.now) old lattice c.loop-row.particles c.loop-row.row c.down-down.ensures.lattice.sized (omega (arith, down, some, end, most, strip)) strip is (c.loop-row.invariant.turned lattice of_known is))
     of_solid

@@ -1,7 +1,7 @@
 use Rattle.std.proofs.Common.{◌≡◌, ◌+◌, ◌%◌, ◌/◌, ◌∙◌, sym, ap, subst}
-use Rattle.phase_step.specs.OddPhase.{IsRowThere, HasInner, HasSeam, IsBegunTurned, once_turned, twice_turned}
+use Rattle.phase_step.specs.OddPhase.{IsRowThere, HasInner, HasSeam, IsBegunTurned, once_turned, twice_turned, place_in_whole}
 use Rattle.phase_step.specs.declared.odd_phase.RowPlace.{RowPlace}
-use Rattle.phase_step.proofs.TwoPhases.{place_in_whole, place_in_whole_is, whole_row_there_is, setting, whole_inner_ready, whole_seam_ready, turned_twice}
+use Rattle.phase_step.proofs.TwoPhases.{place_in_whole_is, whole_row_there_is, setting, whole_inner_ready, whole_seam_ready, turned_twice}
 use Rattle.phase_step.specs.Solid.{all_of}
 use Rattle.phase_step.proofs.parts.sweeping.turn_second.Goals as goal
 
