@@ -17,8 +17,8 @@ pub fn tiles_met(start: u32, len: u32, n: u32) -> (u32, u32)
         (nat_le start x && nat_lt x (start + len)) ≡ false }
     ensures after { (x : ℕ) → x / 64 < n → result.1 ≤ x / 64 →
         (nat_le start x && nat_lt x (start + len)) ≡ false }
-    ensures met { (k : ℕ) → result.0 ≤ k → k < result.1 →
-        (64 * k < start + len) × (start < 64 * (k + 1)) }
+    ensures met { (k : ℕ) → k < n → (nat_le result.0 k && nat_lt k result.1) ≡
+        (nat_lt start (64 * (k + 1)) && nat_lt (64 * k) (start + len)) }
 {
     let end = ((start + len + 63) / 64).min(n);
     ((start / 64).min(end), end)

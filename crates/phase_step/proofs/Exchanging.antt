@@ -1,5 +1,5 @@
 -- What rectangles leave of a tile.
-use Rattle.std.proofs.Common.{◌≡◌, ℕ, ◌+◌, ◌*◌, ◌/◌, ◌<◌, ◌≤◌, ◌==◌, ◌&&◌, ◌||◌, not, Bool, true, false, List, [], ◌∷◌, length, if◌then◌else◌, refl, sym, ◌∙◌, ap, ap₂, arith}
+use Rattle.std.proofs.Common.{◌≡◌, ℕ, ◌+◌, ◌/◌, ◌<◌, ◌==◌, ◌&&◌, ◌||◌, not, Bool, true, false, List, [], ◌∷◌, length, if◌then◌else◌, refl, sym, ◌∙◌, ap, ap₂, arith}
 use Rattle.std.proofs.lemmas.Bool.Decides.{nat_tests}
 use Rattle.bit_tile.specs.Tile as tile
 use Rattle.bit_tile.specs.Tile.{HasCells}
@@ -7,7 +7,7 @@ use Rattle.bit_tile.specs.declared.Tile.{Tile}
 use Rattle.gas_terms.specs.Cells.{Rectangle}
 use Rattle.phase_step.specs.Actions.{IsStill, IsTileCorner}
 use Rattle.phase_step.specs.Counts.{AreTileCounts}
-use Rattle.phase_step.specs.Exchanges.{Areas, HasTilesOf, is_among, is_in_any, is_left, is_met, is_set, leaves_of, nowhere}
+use Rattle.phase_step.specs.Exchanges.{Areas, HasTilesOf, is_in_any, is_left, is_set, leaves_of, nowhere}
 use Rattle.phase_step.proofs.TileChanges.{counts_as}
 
 as_before : (held : Bool) → ((held && true) || false) ≡ held
@@ -60,8 +60,3 @@ unmet met areas left top x y tiles corner h k none =
     let row : (top + y) / 64 ≡ top / 64 = omega (arith, corner.row, k) in
     met_by (is_in_any areas (left + x) (top + y)) (tile.has met (left / 64) (top / 64))
     (λ e. ap₂ (tile.has met) (sym column) (sym row) ∙ tiles (left + x) (top + y) (omega (arith, corner.column, corner.right, h)) (omega (arith, corner.row, corner.bottom, k)) e) none
-
--- where some numbers stand, counted in tiles
-pub same_tests : (start len first n k : ℕ) → k < 64 → (first ≤ k → start < 64 * (k + 1)) → (start < 64 * (k + 1) → first ≤ k) → (k < first + n → 64 * k < start + len) → (64 * k < start + len → k < first + n)
-    → is_among first n k ≡ is_met start len k
-same_tests start len first n k h a b c d = grind (arith, nat_tests)

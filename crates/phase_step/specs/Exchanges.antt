@@ -39,7 +39,7 @@ nowhere = record { drains = []; sources = [] }
 abbrev pub listed : List Areas → ℕ → Leaves
 listed exchanges k = leaves_of (get_or exchanges k nowhere)
 
--- whether any of the `len` numbers from `start` on is among the 64 from 64 * k on
+-- whether any of the `len` numbers from `start` on, at least one, is among the 64 from 64 * k on
 abbrev pub is_met : ℕ → ℕ → ℕ → Bool
 is_met start len k = nat_lt start (64 * (k + 1)) && nat_lt (64 * k) (start + len)
 

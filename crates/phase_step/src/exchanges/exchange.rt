@@ -10,7 +10,7 @@ ghost use Rattle.phase_step.specs.Exchanges.{is_among, is_met, leaves_of, meets_
 use crate::exchanges::PortArray;
 use crate::exchanges::set_cells::{is_settled, set_areas};
 use crate::sums::CellCounts;
-use gas_plane::Tile;
+use gas_plane::{Tile, tiles_met};
 use gas_terms::{Rect, Size};
 use std::marker::Model;
 
@@ -148,8 +148,6 @@ fn tiles_along(start: u16, len: u16) -> (u32, u32)
     ensures within { result.0 + result.1 ≤ 64 }
     ensures met { (k : ℕ) → k < 64 → is_among result.0 result.1 k ≡ is_met start len k }
 {
-    let start = u32::from(start);
-    let end = ((start + u32::from(len) + 63) / 64).min(64);
-    let first = (start / 64).min(end);
+    let (first, end) = tiles_met(u32::from(start), u32::from(len), 64);
     (first, end - first)
 }
