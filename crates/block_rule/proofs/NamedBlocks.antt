@@ -1,16 +1,15 @@
 -- The walled blocks of a tile at odd parity.
-use Rattle.std.proofs.Common.{◌≡◌, refl, ◌⊎◌, ℕ, ◌+◌, ◌-◌, ◌*◌, ◌/◌, ◌%◌, ◌<◌, ◌≤◌, Bool, false, ◌&&◌, ◌||◌, length, get_or, set, sym, subst, ◌∙◌, ap, ap₂, arith, inl, inr, List, Option, Some, None, bit_or}
+use Rattle.std.proofs.Common.{◌≡◌, refl, ◌⊎◌, ℕ, ◌+◌, ◌-◌, ◌*◌, ◌/◌, ◌%◌, ◌<◌, ◌≤◌, Bool, false, ◌&&◌, length, get_or, set, sym, subst, ◌∙◌, ap, ap₂, arith, inl, inr, List, Option, Some, None}
 use Rattle.std.proofs.lemmas.Bool.{cases_eq, eq-eqb, ne_eqb}
 use Rattle.bit_tile.specs.Bit.{bit}
 use Rattle.bit_tile.specs.Tile.{has, HasCells}
 use Rattle.bit_tile.specs.declared.Tile.{Tile}
-use Rattle.block_rule.specs.Around.{block_start, either, is_block_walled, is_walled_at, turned_window}
+use Rattle.block_rule.specs.Around.{block_start, is_block_walled, is_walled_at, turned_window}
 use Rattle.block_rule.specs.Cell.{made, turned_cell}
-use Rattle.bit_tile.proofs.Bits.{bit-zero, bit-or}
+use Rattle.bit_tile.proofs.Bits.{bit-zero}
 use Rattle.bit_tile.proofs.Classes.{IsClass, is_even_even, is_odd_even, is_even_odd, is_odd_odd}
 use Rattle.block_rule.specs.Classes.{AreClassCounts, particles_among}
 use Rattle.block_rule.specs.Shown.{HasNoCell, TellsRows}
-use Rattle.block_rule.proofs.Blank.{walled_either}
 use Rattle.block_rule.specs.NamedBlocks.{rule_among, AreMadeUpTo, NameBlocks, IsCollidedOdd, AreEvenBlocksOf, AreOddBlocksOf}
 use Rattle.block_rule.specs.declared.blocks_in_tile.OddBlocks.{OddBlocks}
 use Rattle.block_rule.specs.TileBlocks.{NamesBlocks, AreGivenBlocks}
@@ -197,20 +196,6 @@ module _ (b : OddBlocks) (window : ℕ → ℕ → Bool) (are : AreOddBlocksOf b
     where
       at : (p q : ℕ) → 2 * (x / 2) + p ≡ x → 2 * (y / 2) + q ≡ y → is_walled_at 1 window (2 * (x / 2) + p) (2 * (y / 2) + q) ≡ false → is_walled_at 1 window x y ≡ false
       at p q is_x is_y none = sym (ap₂ (is_walled_at 1 window) is_x is_y) ∙ none
-
--- a word that tells in which rows the blocks of two sets lie
-pub tells_either : (p rows others : ℕ) (walled obstructed : ℕ → ℕ → Bool) → TellsRows rows (is_walled_at p walled) → TellsRows others (is_walled_at p obstructed) → TellsRows (bit_or rows others) (is_walled_at p (either walled obstructed))
-tells_either p rows others walled obstructed first second x y h k e =
-    walled_either p walled obstructed x y ∙ both_false _ _ (first x y h k (or_false_left _ _ (sym (bit-or rows others (y / 2)) ∙ e))) (second x y h k (or_false_right _ _ (sym (bit-or rows others (y / 2)) ∙ e)))
-  where
-    both_false : (a b : Bool) → a ≡ false → b ≡ false → (a || b) ≡ false
-    both_false a b e f = grind arith
-
-    or_false_left : (a b : Bool) → (a || b) ≡ false → a ≡ false
-    or_false_left a b e = grind arith
-
-    or_false_right : (a b : Bool) → (a || b) ≡ false → b ≡ false
-    or_false_right a b e = grind arith
 
 pub one_named : (b : OddBlocks) (solid : ℕ → ℕ → Bool) → AreOddBlocksOf b (is_walled_at 1 solid) → NameBlocks (λ k. get_or b.begin k 0) (λ k. get_or b.end k 0) solid
 one_named b solid are = grind (arith, named_by_cells)

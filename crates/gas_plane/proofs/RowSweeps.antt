@@ -1,5 +1,5 @@
 -- A row's words are replaced one after another.
-use Rattle.std.proofs.Common.{◌≡◌, ℕ, ◌+◌, ◌-◌, ◌*◌, ◌/◌, ◌%◌, ◌<◌, ◌≤◌, ◌==◌, ◌&&◌, ◌≢◌, Bool, true, false, nat_lt, if◌then◌else◌, List, get_or, refl, sym, ◌∙◌, ap, ap₂, arith, inl, inr, get_or-take, get_or-drop, take, drop}
+use Rattle.std.proofs.Common.{◌≡◌, ℕ, ◌+◌, ◌-◌, ◌*◌, ◌/◌, ◌%◌, ◌<◌, ◌==◌, ◌&&◌, ◌≢◌, Bool, true, false, nat_lt, if◌then◌else◌, List, get_or, refl, sym, ◌∙◌, ap, ap₂, arith, inl, inr, get_or-take, get_or-drop, take, drop}
 use Rattle.std.proofs.lemmas.Nat.{same_from_place, mul-add-lt, div-mul-add, mod-mul-add}
 use Rattle.std.proofs.lemmas.Bool.{cases_eq, eq-eqb, ne_eqb}
 use Rattle.std.proofs.lemmas.Bool.Decides.{nat_tests, Decides-eqb}
@@ -7,7 +7,7 @@ use Rattle.bit_tile.specs.Tile as tile
 use Rattle.bit_tile.specs.Bit.{bit}
 use Rattle.bit_tile.specs.declared.Tile.{Tile}
 use Rattle.gas_terms.specs.Cells.{Cells, has, cells_where, extent, IsFull, tile_count}
-use Rattle.gas_terms.specs.Rows.{row_has, row_replaced}
+use Rattle.gas_terms.specs.Rows.{row_has}
 use Rattle.gas_terms.proofs.Cells.{has-cells_where, full-cells_where, same_cells_where, same_cells}
 use Rattle.gas_plane.specs.Planes.{IsLattice, IsTileFrom, tile_of, with_tile, with_row_word}
 use Rattle.gas_plane.proofs.Places.{wide, high, tile_below}
@@ -73,17 +73,8 @@ rowed cells row bytes column = cells_where cells.width cells.height (λ x y. if 
 none_before : (n : ℕ) (b : Bool) → (nat_lt n 0 && b) ≡ false
 none_before n b = grind (arith, nat_tests)
 
-all_before : (n c : ℕ) (b : Bool) → n < c → (nat_lt n c && b) ≡ b
-all_before n c b h = grind (arith, nat_tests)
-
 pub row_starts : (cells : Cells) (row : ℕ) (bytes : List ℕ) → IsFull cells → cells ≡ rowed cells row bytes 0
 row_starts cells row bytes full = grind (arith, same_cells, full-cells_where, nat_lt, choose_false, none_before, has-cells_where)
-
-pub row_ends : (cells now : Cells) (row : ℕ) (bytes : List ℕ) (column : ℕ) → IsLattice cells → cells.width / 64 ≤ column → now ≡ rowed cells row bytes column → now ≡ row_replaced cells row bytes
-row_ends cells now row bytes column is past so_far =
-    so_far
-    ∙ same_cells_where cells.width cells.height (λ x y. if nat_lt (x / 64) column && (y == row) then row_has bytes x else has cells x y) (λ x y. if y == row then row_has bytes x else has cells x y)
-    (λ x y p q. ap (λ b. if b then row_has bytes x else has cells x y) (all_before (x / 64) column (y == row) (let k = tile_below cells.width x (wide (extent cells) is.sized) p in omega arith)))
 
 -- eight bytes of the row
 pub chunk_has : (bytes chunk : List ℕ) (column x : ℕ) → x < 64 → ((k : ℕ) → k < 8 → get_or chunk k 0 ≡ get_or bytes (column * 8 + k) 0) → row_has chunk x ≡ row_has bytes (column * 64 + x)

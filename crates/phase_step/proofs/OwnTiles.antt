@@ -10,7 +10,6 @@ use Rattle.gas_plane.proofs.Sweeps.{left_of, top_of}
 use Rattle.phase_step.specs.Parts.{start_of, row_in, own_rows, tile_in, AreOwn, AreTilesOf, IsPlaced, IsOwn, IsPartOf}
 use Rattle.phase_step.specs.declared.parts.OwnTiles.{OwnTiles}
 use Rattle.phase_step.specs.declared.parts.Part.{Part}
-use Rattle.phase_step.proofs.PhaseSweeps.{tiles_as}
 
 -- a row of the torus by its row of tiles
 pub row_turns : (a k d y : ℕ) → 0 < d → y < 64 → (a * 64 + (k * 64 + y)) % (d * 64) ≡ (a + k) % d * 64 + y
@@ -185,6 +184,3 @@ own_tiles_of part walls cells lattice own sized are is sides =
           own_cell part cells lattice i x y sized is (are.each i (omega arith) (omega (arith, less))) h l
           ∙ ap (λ j. has lattice ((tile_rectangle lattice j).x + x) ((tile_rectangle lattice j).y + y)) there;
     }
-
-pub there_below : (lattice set : Cells) (first end there i : ℕ) → HasSidesOf set lattice → there + (end - first) ≤ tile_count lattice → first ≤ i → i < end → there + (i - first) < tile_count set
-there_below lattice set first end there i sides inside from to = let e = tiles_as set lattice sides in omega (arith, inside, from, to, e)

@@ -94,8 +94,8 @@ module _ (c w o : Cells) (is : IsLattice c) where
       counted_fit (k * rows) k kept took here _ _ e f (sum_few takings IsTakenOf (none_taken 0) took_few k (row_takes c w o) both_few rows) (both_few row) (omega (arith, most, a_few))
 
   -- all rows
-  pub all_rows : sum_first takings (row_takes c w o) (c.height / 64) ≡ both_taken c w o
-  all_rows =
+  pub rows_take_all : sum_first takings (row_takes c w o) (c.height / 64) ≡ both_taken c w o
+  rows_take_all =
       let n = c.height / 64 in
       let all : n * (c.width / 64) ≡ tile_count c = omega arith in
       sum_both takings takings_add (row_take 0 c w o) (row_take 1 next w o) n

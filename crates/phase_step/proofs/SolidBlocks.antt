@@ -329,7 +329,3 @@ both_same old walls obstacles i place p x y two h k =
 pub given_in_both : (old walls obstacles : Cells) (i : ℕ) (given : Option SetBlocks) → IsPlaceOf old walls obstacles i → AreGivenBlocks given (is_walled_in (joined walls obstacles) i)
     → AreGivenBlocks given (walled_by (either (view_of walls (tile_rectangle old i).x (tile_rectangle old i).y) (view_of obstacles (tile_rectangle old i).x (tile_rectangle old i).y)))
 given_in_both old walls obstacles i given place = given_same given (is_walled_in (joined walls obstacles) i) _ (both_same old walls obstacles i place)
-
-pub named_in_both : (old walls obstacles : Cells) (i rows : ℕ) (blocks : TileBlocks) → IsPlaceOf old walls obstacles i
-    → NamesBlocks rows blocks (walled_by (either (view_of walls (tile_rectangle old i).x (tile_rectangle old i).y) (view_of obstacles (tile_rectangle old i).x (tile_rectangle old i).y))) → NamesBlocks rows blocks (is_walled_in (joined walls obstacles) i)
-named_in_both old walls obstacles i rows blocks place = names_same rows blocks _ (is_walled_in (joined walls obstacles) i) (λ p x y two h k. sym (both_same old walls obstacles i place p x y two h k))

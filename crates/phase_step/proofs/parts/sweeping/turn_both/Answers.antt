@@ -6,7 +6,7 @@ use Rattle.phase_step.specs.Amounts.{sum_first}
 use Rattle.phase_step.specs.OddPhase.{once_turned, twice_turned, TurnsSecond}
 use Rattle.phase_step.specs.Runs.{row_takes, takings}
 use Rattle.phase_step.proofs.FlowSums.{counted_plus, takings_add}
-use Rattle.phase_step.proofs.RowCounts.{all_rows, next_fits}
+use Rattle.phase_step.proofs.RowCounts.{rows_take_all, next_fits}
 use Rattle.phase_step.proofs.TwoPhases.{first_turned, none_next, all_turned_twice}
 use Rattle.phase_step.specs.Solid.{all_of}
 use Rattle.phase_step.proofs.parts.sweeping.turn_both.Goals.{After-turn_twice-here}
@@ -81,4 +81,4 @@ returns-clause-took c =
     let some = c.down-last.ensures.positive in
     let end : c.loop-row.row + 1 ≡ old.height / 64 = omega (arith, c.loop-row-test.false, c.loop-row.auto.row-end, down, some) in
     c.loop-row.invariant.took
-    ∙ ap (counted_of c.args.counting.counted) (ap (sum_first takings (row_takes old s.walls s.obstacles)) end ∙ all_rows old s.walls s.obstacles c.down-last.ensures.lattice)
+    ∙ ap (counted_of c.args.counting.counted) (ap (sum_first takings (row_takes old s.walls s.obstacles)) end ∙ rows_take_all old s.walls s.obstacles c.down-last.ensures.lattice)
