@@ -118,17 +118,17 @@ fn strips_agree<R: Threads + Clock + Abort + AllocGlobal + Copy + Drop>(
     }
 }
 
-// A run that counts nothing, two phases in a sweep by one thread and by strips, and the same phase by phase.
+// A run by one thread, two phases in a sweep, the same by strips, and phase by phase.
 fn sweeps_agree<R: Threads + Clock + Abort + AllocGlobal + Copy + Drop>(
     rt: &R,
     size: Size,
     walls: &Plane,
+    obstacles: &Plane,
     n: u16,
 ) {
-    let none = Plane::empty(rt.alloc(), size).expect(rt, "memory");
     let mut one = team(rt, *rt, rt.alloc(), 1, NoGate);
     for parity in [0, 1] {
-        let run = among(walls, &none, parity, n);
+        let run = among(walls, obstacles, parity, n);
         let mut alone = seeded(rt, size, 88172645463325252, 1);
         let mut now = seeded(rt, size, 88172645463325252, 1);
         let by_one = by_phases(rt, run, &mut alone);
@@ -143,16 +143,19 @@ fn sweeps_agree<R: Threads + Clock + Abort + AllocGlobal + Copy + Drop>(
     }
 }
 
-// Without obstacles one account is kept, theirs, and there is nothing to count. One row of tiles is its own neighbor.
+// Without obstacles one account is kept, theirs, and there is nothing to count. With both a sweep counts each row of tiles twice. One
+// row of tiles is its own neighbor.
 #[test]
 fn two_phases_in_a_sweep_are_two_phases(rt: HostRuntime) {
     for (width, height) in [(64, 64), (192, 64), (64, 128), (128, 192)] {
         let size = Size::new(width, height).expect(&rt, "a size");
         let none = Plane::empty(rt.alloc(), size).expect(&rt, "memory");
         let walls = seeded(&rt, size, 77172645463325252, 7);
+        let obstacles = seeded(&rt, size, 66172645463325252, 8);
         for n in [0, 1, 2, 3, 6, 7] {
-            sweeps_agree(&rt, size, &none, n);
-            sweeps_agree(&rt, size, &walls, n);
+            sweeps_agree(&rt, size, &none, &none, n);
+            sweeps_agree(&rt, size, &walls, &none, n);
+            sweeps_agree(&rt, size, &walls, &obstacles, n);
         }
     }
 }
