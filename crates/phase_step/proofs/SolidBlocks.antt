@@ -239,6 +239,13 @@ module _ (set : Cells) (lattice : IsLattice set) (none : HasNone set) (n : ℕ) 
 pub has_none : (set : Cells) (width height : ℕ) → set ≡ cells_where width height (λ _ _. false) → HasNone set
 has_none set width height e = subst HasNone (sym e) (record { cell = λ x y h k. has-cells_where width height (λ _ _. false) x y h k })
 
+-- a set of which cells were removed
+pub still_none : (set now : Cells) (area : Rectangle) (had : Bool) → now ≡ cleared set area → (had ≡ false → HasNone set) → (had ≡ false) ⊎ HasNone now → HasNone now
+still_none set now area had e none (inr is) = is
+still_none set now area had e none (inl h) =
+    subst HasNone (sym e)
+    (record { cell = λ x y p q. has-cells_where set.width set.height (λ x y. has set x y && not (is_inside area x y)) x y p q ∙ ap (λ b. b && not (is_inside area x y)) ((none h).cell x y p q) })
+
 pub nothing_walled : (set other : Cells) (i : ℕ) → IsLattice set → i < tile_count set → other ≡ nothing_of set → NamesBlocks 0 zero_words (is_walled_in other i)
 nothing_walled set other i lattice within e =
     let bare : IsLattice (nothing_of set) = record { sized = lattice.sized; full = full-cells_where set.width set.height (λ _ _. false) } in

@@ -3,8 +3,7 @@
 ghost use Rattle.std.specs.Prelude.{◌≡◌, ◌^◌, ◌≤◌, not, nat_abs, ◌+ℤ◌, ◌-ℤ◌};
 ghost use Rattle.phase_step.specs.Balance.{flow_counted, left_of, missing, AreFew};
 
-use crate::{Counted, Flow};
-use gas_plane::Plane;
+use crate::{Counted, Flow, Solids};
 use gas_terms::{Moved, Pair, Sums, Took};
 
 // One component of what is missing of the momentum in the end.
@@ -34,10 +33,13 @@ fn missing(before: Sums, after: Sums, flow: Flow) -> Pair
 }
 
 /// The one account that a long run keeps. Which one it is changes nothing but the time: that of a set without cells is quicker.
-pub fn account_to_count(walls: &Plane) -> Counted
+pub fn account_to_count(solids: &Solids) -> Counted
     ensures { result.obstacles ≡ not result.walls }
 {
-    let walls = walls.is_empty();
+    let walls = !solids.is_counted(Counted {
+        walls: true,
+        obstacles: false,
+    });
     Counted {
         walls,
         obstacles: !walls,

@@ -136,11 +136,10 @@ impl<R: Threads + Clock + Drop> Stepper for StripTeam<R> {
     // Among walls, a run keeps one account, and works the other out from the momentum. What there is at the end is kept for the
     // next run.
     fn run_with<A: Action>(&mut self, particles: &mut Plane, run: Run<'_, A>) -> Flow {
-        let walls = &run.solids.walls;
-        if walls.is_empty() && run.solids.obstacles.is_empty() {
+        if run.solids.are_none() {
             return self.run_by_worth(particles, run, Counted::BOTH);
         }
-        let counted = account_to_count(walls);
+        let counted = account_to_count(run.solids);
         let end = parity_at(run.parity, run.n);
         let before = particles.keep_total(run.parity);
         let flow = self.run_by_worth(particles, run, counted);

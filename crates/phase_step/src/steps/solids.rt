@@ -1,7 +1,8 @@
 //! Walls and obstacles, with their blocks.
 
-ghost use Rattle.std.specs.Prelude.{◌≡◌, ◌<◌, false, IfOk, IsTrue};
+ghost use Rattle.std.specs.Prelude.{◌≡◌, ◌<◌, ◌⊎◌, false, IfOk, IsTrue};
 ghost use Rattle.gas_terms.specs.Cells.{cells_where, filled, cleared, joined, tile_count, HasSidesOf};
+ghost use Rattle.gas_plane.specs.Planes.{HasNone};
 ghost use Rattle.block_rule.specs.TileBlocks.{AreGivenBlocks};
 ghost use Rattle.phase_step.specs.SolidBlocks.{is_walled_in, AreBlocksOf, AreTileSolids, AreOfNone, HasNoBlocks};
 
@@ -18,7 +19,12 @@ pub struct Solids {
     pub obstacles: Plane,
     of_obstacles: SetWords,
     of_all: SetWords,
+    // Whether there may be a wall, and an obstacle.
+    some_walls: bool,
+    some_obstacles: bool,
     pub ghost sides: { HasSidesOf obstacles walls },
+    pub ghost no_walls: { some_walls ≡ false → HasNone walls },
+    pub ghost no_obstacles: { some_obstacles ≡ false → HasNone obstacles },
     pub ghost obstructed: { AreBlocksOf obstacles of_obstacles.rows.items
         of_obstacles.blocks.items },
     pub ghost walled: { AreBlocksOf (joined walls obstacles) of_all.rows.items
@@ -30,6 +36,13 @@ pub struct Solids {
 pub struct TileSolids<'a> {
     pub all: Option<SetBlocks<'a>>,
     pub obstacles: Option<SetBlocks<'a>>,
+}
+
+// Whether a set has a cell, if it may have had one.
+fn may_have_some(set: &Plane, had: bool) -> bool
+    ensures { result ≡ false → (had ≡ false) ⊎ HasNone set.now }
+{
+    had && !set.is_empty()
 }
 
 impl Solids {
@@ -49,6 +62,8 @@ impl Solids {
             obstacles,
             of_obstacles,
             of_all,
+            some_walls: false,
+            some_obstacles: false,
         })
     }
 
@@ -59,11 +74,15 @@ impl Solids {
     {
         let of_obstacles = SetWords::alone(alloc, &obstacles)?;
         let of_all = SetWords::of(alloc, &walls, Some(&of_obstacles))?;
+        let some_walls = !walls.is_empty();
+        let some_obstacles = !obstacles.is_empty();
         Ok(Solids {
             walls,
             obstacles,
             of_obstacles,
             of_all,
+            some_walls,
+            some_obstacles,
         })
     }
 
@@ -81,6 +100,8 @@ impl Solids {
             obstacles,
             of_obstacles,
             of_all,
+            some_walls: self.some_walls,
+            some_obstacles: self.some_obstacles,
         })
     }
 
@@ -90,6 +111,7 @@ impl Solids {
         ensures obstacles { self.new.obstacles ≡ self.old.obstacles }
     {
         self.walls.fill(area);
+        self.some_walls = true;
         renew(
             &self.walls,
             Some(&self.of_obstacles),
@@ -104,6 +126,7 @@ impl Solids {
         ensures obstacles { self.new.obstacles ≡ filled self.old.obstacles area }
     {
         self.obstacles.fill(area);
+        self.some_obstacles = true;
         renew_alone(&self.obstacles, area, &mut self.of_obstacles);
         renew(
             &self.walls,
@@ -120,6 +143,8 @@ impl Solids {
     {
         self.walls.clear(area);
         self.obstacles.clear(area);
+        self.some_walls = may_have_some(&self.walls, self.some_walls);
+        self.some_obstacles = may_have_some(&self.obstacles, self.some_obstacles);
         renew_alone(&self.obstacles, area, &mut self.of_obstacles);
         renew(
             &self.walls,
@@ -134,7 +159,7 @@ impl Solids {
         ensures { IsTrue result → HasNoBlocks (joined self.now.walls self.now.obstacles) }
     {
         self.walls.shows_lattice();
-        self.walls.is_empty() & self.obstacles.is_empty()
+        !self.some_walls & !self.some_obstacles
     }
 
     /// False only if the accounts that are kept are of sets without cells, which take nothing.
@@ -143,9 +168,7 @@ impl Solids {
     {
         self.walls.shows_lattice();
         self.obstacles.shows_lattice();
-        let of_walls = counted.walls & !self.walls.is_empty();
-        let of_obstacles = counted.obstacles & !self.obstacles.is_empty();
-        of_walls | of_obstacles
+        (counted.walls & self.some_walls) | (counted.obstacles & self.some_obstacles)
     }
 
     /// The walled blocks of tile i.

@@ -39,6 +39,8 @@ invariant_of-self c =
     let before = joined s.walls s.obstacles in
     record {
       sides = of;
+      no_walls = s.no_walls;
+      no_obstacles = λ e. absurd (cc);
       obstructed = now;
       walled = c.renew.ensures before c.fill.new.self (of, now) (filled_differs c.args.area before (joined s.walls c.fill.new.self) (ap (joined s.walls) c.fill.ensures ∙ sym (obstacles_filled s.walls s.obstacles c.args.area s.sides))) s.walled;
     }

@@ -25,6 +25,8 @@ invariant_of-self c =
     let before = joined s.walls s.obstacles in
     record {
       sides = of;
+      no_walls = λ e. absurd (cc);
+      no_obstacles = s.no_obstacles;
       obstructed = s.obstructed;
       walled = c.renew.ensures before s.obstacles (of, s.obstructed) (filled_differs c.args.area before (joined c.fill.new.self s.obstacles) (ap (λ (w : Cells). joined w s.obstacles) c.fill.ensures ∙ sym (walls_filled s.walls s.obstacles c.args.area s.sides))) s.walled;
     }

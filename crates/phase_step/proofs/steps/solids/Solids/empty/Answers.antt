@@ -18,6 +18,8 @@ invariant_of-result c =
     let sides : HasSidesOf o w = record { wide = ap (λ (c : Cells). c.width) same; high = ap (λ (c : Cells). c.height) same } in
     record {
       sides = sides;
+      no_walls = λ _. no_walls;
+      no_obstacles = λ _. no_obstacles;
       obstructed =
           no_blocks_named o (subst IsLattice (sym same) is) no_obstacles n c.in_ok-of_obstacles.of_obstacles.rows.items c.in_ok-of_obstacles.of_obstacles.blocks.items
           (count ∙ ap (λ (c : Cells). c.width / 64 * (c.height / 64)) (sym same)) c.in_ok-of_obstacles.ensures.0 c.in_ok-of_obstacles.ensures.1;

@@ -1,7 +1,7 @@
 use Rattle.std.proofs.Common.{◌∙◌, ap, ap₂, sym}
 use Rattle.gas_terms.specs.Cells.{Cells, HasSidesOf, joined}
 use Rattle.phase_step.specs.SolidBlocks.{AreBlocksOf}
-use Rattle.phase_step.proofs.SolidBlocks.{cleared_differs}
+use Rattle.phase_step.proofs.SolidBlocks.{cleared_differs, still_none}
 use Rattle.phase_step.proofs.Together.{both_cleared, tiles_alike}
 use Rattle.phase_step.proofs.steps.solids.Solids.remove.Goals as goal
 use Rattle.phase_step.proofs.steps.solids.Solids.remove.Goals.{After-clear-2, After-renew_alone}
@@ -47,6 +47,8 @@ invariant_of-self c =
     let before = joined s.walls s.obstacles in
     record {
       sides = of;
+      no_walls = λ e. still_none s.walls c.clear.new.self c.args.area s.some_walls c.clear.ensures s.no_walls (c.may_have_some-self.ensures e);
+      no_obstacles = λ e. still_none s.obstacles c.clear-2.new.self c.args.area s.some_obstacles c.clear-2.ensures s.no_obstacles (c.may_have_some-self-2.ensures e);
       obstructed = now;
       walled = c.renew.ensures before c.clear-2.new.self (of, now)
           (cleared_differs c.args.area before (joined c.clear.new.self c.clear-2.new.self) (ap₂ joined c.clear.ensures c.clear-2.ensures ∙ sym (both_cleared s.walls s.obstacles c.args.area s.sides))) s.walled;
