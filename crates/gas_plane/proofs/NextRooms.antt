@@ -7,11 +7,8 @@ use Rattle.gas_plane.specs.Beside.{IsRoomTurned, IsTurnedBeside}
 use Rattle.gas_plane.specs.Planes.{IsTileFrom}
 use Rattle.std.specs.Vec.{with_items}
 use Rattle.std.specs.Global.{Vec}
-use Rattle.gas_plane.specs.declared.marks.Mark.{Mark}
-use Rattle.gas_plane.specs.declared.marks.Mark.TheVariants.{Lent}
-use Rattle.gas_plane.proofs.BareTiles.{lent_is_mark}
-use Rattle.gas_plane.specs.Tiles.{tiled, tiles_of, Cover, IsMarked}
-use Rattle.gas_plane.proofs.Rooms.{room_read, tiled_room, marked_room}
+use Rattle.gas_plane.specs.Tiles.{tiled, tiles_of, Cover}
+use Rattle.gas_plane.proofs.Rooms.{room_read, tiled_room, covered_room}
 use Rattle.gas_plane.proofs.Tilings.{tile_is, tile_there}
 use Rattle.gas_plane.specs.declared.aligned_tile.AlignedTile.{AlignedTile}
 
@@ -65,8 +62,7 @@ plane_turned turns after rooms slice now fin size cells i cover view within e f 
     subst (λ l. IsTurnedBeside turns after cells i (tiled (tiles_of l) size)) (sym f)
     (turned_beside turns after rooms now size cells i cover view within (subst (λ l. IsRoomTurned turns after l i now) e is))
 
-pub marks_turned : {A : Type 0} (turns : Tile → Tile → Tile → A → Type 0) (after : A) (rooms slice now fin : List AlignedTile) (marks : List Mark) (size : Extent) (cells : Cells) (i : ℕ) → IsMarked (tiles_of rooms) marks size → tiled (tiles_of rooms) size ≡ cells → i + 1 < tile_count cells → slice ≡ rooms → fin ≡ now → IsRoomTurned turns after slice i now
-    → IsMarked (tiles_of fin) (set marks i Lent) size
-marks_turned turns after rooms slice now fin marks size cells i was view within e f is =
-    subst (λ l. IsMarked (tiles_of l) (set marks i Lent) size) (sym (f ∙ (is.replaced ∙ ap (λ l. set l i is.room) e)))
-    (marked_room rooms marks i is.room Lent size was (tile_there (tiles_of rooms) size cells i was.cover view (omega (arith, within))) (lent_is_mark is.room.tile))
+pub turned_covers : {A : Type 0} (turns : Tile → Tile → Tile → A → Type 0) (after : A) (rooms slice now fin : List AlignedTile) (size : Extent) (i : ℕ) → Cover (tiles_of rooms) size → slice ≡ rooms → fin ≡ now → IsRoomTurned turns after slice i now → Cover (tiles_of fin) size
+turned_covers turns after rooms slice now fin size i cover e f is =
+    subst (λ l. Cover (tiles_of l) size) (sym (f ∙ (is.replaced ∙ ap (λ l. set l i is.room) e)))
+    (covered_room rooms i is.room size cover)

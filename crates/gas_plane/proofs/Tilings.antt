@@ -72,10 +72,6 @@ tiled_empty tiles size t n all enough sized none =
     let is : tile_at tiles i ≡ t = ap (λ (tiles : List Tile). tile_at tiles i) all ∙ get_or-replicate n i t no_cells k in
     ap (λ (t : Tile). tile.has t (x % 64) (y % 64)) is ∙ none (x % 64) (y % 64) (omega arith) (omega arith))
 
-pub nothing_there : (tiles : List Tile) (size : Extent) (cells : Cells) → Cover tiles size → tiled tiles size ≡ cells → ((i : ℕ) → i < length tiles → (x y : ℕ) → x < 64 → y < 64 → tile.has (tile_at tiles i) x y ≡ false) → (x y : ℕ) → x < cells.width → y < cells.height → has cells x y ≡ false
-unfolding tiles_have
-nothing_there tiles size cells cover e none x y = grind (arith, subst, tile_below, wide, high, mul-add-lt, has-cells_where)
-
 -- a tile that is put in a place
 pub tiled_set : (tiles : List Tile) (size : Extent) (cells : Cells) (i : ℕ) (t : Tile) → i < tile_count cells → Cover tiles size → tiled tiles size ≡ cells → tiled (set tiles i t) size ≡ with_tile cells i t
 unfolding tiles_have

@@ -1,4 +1,3 @@
-pub mod Marks
 pub mod Tiles
 pub mod Planes
 pub mod Lending

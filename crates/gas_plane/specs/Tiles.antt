@@ -2,8 +2,6 @@ use Rattle.std.specs.Prelude.{◌≡◌, ℕ, ◌+◌, ◌-◌, ◌*◌, ◌/◌
 use Rattle.bit_tile.specs.Tile as tile
 pub use Rattle.bit_tile.specs.Tile.{no_cells}
 use Rattle.bit_tile.specs.declared.Tile.{Tile}
-use Rattle.gas_plane.specs.Marks.{mark_at, IsMarkOf}
-use Rattle.gas_plane.specs.declared.marks.Mark.{Mark}
 use Rattle.gas_plane.specs.declared.around.TileRows.{TileRows}
 use Rattle.gas_plane.specs.declared.aligned_tile.AlignedTile.{AlignedTile}
 use Rattle.gas_terms.specs.Cells.{Cells, Extent, cells_where, is_size, tile_count}
@@ -54,9 +52,3 @@ pub record AreFullRows (rows : TileRows) : Type 0 where
 pub record Cover (tiles : List Tile) (size : Extent) : Type 0 where
   pub sized : is_size size ≡ true
   pub enough : length tiles ≡ size.width / 64 * (size.height / 64)
-
--- the tiles cover the lattice, and each has its mark
-pub record IsMarked (tiles : List Tile) (marks : List Mark) (size : Extent) : Type 0 where
-  pub cover : Cover tiles size
-  pub each : length marks ≡ length tiles
-  pub mark : (i : ℕ) → IsMarkOf (tile_at tiles i) (mark_at marks i)

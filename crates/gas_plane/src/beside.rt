@@ -7,7 +7,6 @@ ghost use Rattle.gas_plane.specs.Beside.{IsTurnedBeside, IsRoomTurned};
 
 use crate::Plane;
 use crate::aligned_tile::AlignedTile;
-use crate::marks::Mark;
 use bit_tile::Tile;
 
 /// Turns a tile. It may look at the one to the right. `turns` relates the turner before, the tile before, the one to the right, the
@@ -39,7 +38,6 @@ impl Plane {
         ensures { IsTurnedBeside (T.turns turner.old) turner.new self.old i self.new }
     {
         self.is_counted = false;
-        self.marks[i as usize] = Mark::Lent;
         turn_room(self.tiles.as_mut_slice(), i as usize, turner);
     }
 }

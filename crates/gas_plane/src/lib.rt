@@ -17,7 +17,6 @@ mod beside;
 mod circle;
 mod counts;
 pub mod laws;
-mod marks;
 mod paint;
 mod rows;
 mod tile_areas;
@@ -30,7 +29,6 @@ pub use bit_tile::Tile;
 pub use circle::{after, before};
 pub use counts::add_counts;
 use gas_terms::{NoMemory, Size};
-use marks::{Mark, are_all_bare, mark_of};
 pub use rows::word_of;
 use std::alloc::Global;
 use std::marker::Model;
@@ -43,7 +41,6 @@ pub struct Plane {
     size: Size,
     // Row by row.
     tiles: Vec<AlignedTile>,
-    marks: Vec<Mark>,
     // How many cells there are of each class, if they were counted after the last write. Apart from an `Option`, since a write then
     // clears one byte.
     is_counted: bool,
@@ -53,13 +50,13 @@ pub struct Plane {
 impl Model for Plane {
     ghost use Rattle.gas_terms.specs.Cells.{Cells};
     ghost use Rattle.gas_plane.specs.Counts.{AreOfAll};
-    ghost use Rattle.gas_plane.specs.Tiles.{tiled, tiles_of, IsMarked};
+    ghost use Rattle.gas_plane.specs.Tiles.{tiled, tiles_of, Cover};
 
     ghost Value = { Cells };
 
     ghost view = { λ p. tiled (tiles_of p.tiles.items) p.size };
 
-    ghost invariant = { λ p. IsMarked (tiles_of p.tiles.items) p.marks.items p.size
+    ghost invariant = { λ p. Cover (tiles_of p.tiles.items) p.size
         × AreOfAll p.is_counted p.counts (tiled (tiles_of p.tiles.items) p.size) };
 }
 
@@ -69,11 +66,9 @@ impl Plane {
         ensures { IfOk result (λ plane. plane ≡ cells_where size.width size.height (λ _ _. false)) }
     {
         let tiles = rooms(alloc, Tile::empty(), size.tiles() as usize)?;
-        let marks = vec![in alloc; Mark::Bare; size.tiles() as usize]?;
         Ok(Plane {
             size,
             tiles,
-            marks,
             is_counted: false,
             counts: [0; 4],
         })
@@ -84,11 +79,9 @@ impl Plane {
         ensures { IfOk result (λ plane. plane ≡ self.now) }
     {
         let tiles = copied(alloc, self.tiles.as_slice())?;
-        let marks = Vec::from_slice(alloc, self.marks.as_slice())?;
         Ok(Plane {
             size: self.size,
             tiles,
-            marks,
             is_counted: self.is_counted,
             counts: self.counts,
         })
@@ -137,11 +130,9 @@ impl Plane {
     {
         self.is_counted = false;
         self.tiles[i as usize].tile = tile;
-        self.marks[i as usize] = mark_of(&tile);
     }
 
-    /// Tile i, for writing. From then on `is_bare` has to look through this tile, so `set_tile` is better for tiles that may end
-    /// without cells.
+    /// Tile i, for writing.
     #[inline]
     pub fn tile_mut(&mut self, i: u32) -> &mut Tile
         requires { i < tile_count self.old }
@@ -149,32 +140,15 @@ impl Plane {
         ensures tile { let r = tile_rectangle self.old i in IsTileFrom result.now self.old r.x r.y }
     {
         self.is_counted = false;
-        self.marks[i as usize] = Mark::Lent;
         &mut self.tiles[i as usize].tile
     }
 
-    /// Whether tile i has no cell.
-    #[inline]
-    pub fn is_bare(&self, i: u32) -> bool
-        requires { i < tile_count self.now }
-        ensures { let r = tile_rectangle self.now i in IsTrue result ↔ IsBare self.now r.x r.y }
-    {
-        match self.marks[i as usize] {
-            Mark::Bare => true,
-            Mark::Held => false,
-            Mark::Lent => self.tile(i).is_empty(),
-        }
-    }
-
-    /// Whether no tile has a cell.
+    /// Whether no tile has a cell. It reads the tiles up to the first one that has some.
     pub fn is_empty(&self) -> bool
         ensures { IsTrue result ↔ HasNone self.now }
     {
-        if are_all_bare(self.marks.as_slice()) {
-            return true;
-        }
         for i in 0..self.size().tiles() {
-            if !self.is_bare(i) {
+            if !self.tile(i).is_empty() {
                 return false;
             }
         }

@@ -8,4 +8,4 @@ pub returns-clause-tiles : goal.returns-clause-tiles
 returns-clause-tiles c =
     let start = c.args.row * (c.width.result / 64) in
     subst (λ (rooms : List AlignedTile). AreTilesInRow (take (length rooms - start) (drop start rooms)) c.args.self.now c.args.row) (sym c.deref.ensures.value)
-    (row_read c.self.inside.tiles.items c.self.inside.size c.args.self.now c.args.row c.width.result c.self.invariant.0.cover c.self.view_is c.requires c.width.ensures)
+    (row_read c.self.inside.tiles.items c.self.inside.size c.args.self.now c.args.row c.width.result c.self.invariant.0 c.self.view_is c.requires c.width.ensures)
