@@ -1,5 +1,5 @@
-//! Tests of the crates from `gas_terms` up to `gas_ledger`, of `phase_strips`, `phase_team`, `claim_desk` and `ticket_lock`,
-//! through their public calls.
+//! Tests of the crates from `gas_terms` up to `gas_ledger`, of `phase_strips`, `single_phase`, `phase_team`, `claim_desk` and
+//! `ticket_lock`, through their public calls.
 #![tactic(auto)]
 
 #[cfg(test)]

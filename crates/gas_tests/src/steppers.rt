@@ -1,17 +1,17 @@
-//! Phases by any stepper, and teams for tests.
+//! Single phases by anything that makes them, and teams for tests.
 
 use crate::expected::expect_that;
 use crate::lattices::fit;
 use gas_plane::Plane;
 use gas_terms::{Pair, Took};
-use phase_step::Stepper;
 use phase_team::{Gate, Team};
+use single_phase::Phases;
 use std::alloc::Global;
 use std::process::Abort;
 use std::thread::Threads;
 
-/// A phase as a laboratory makes it.
-pub fn step<S: Stepper>(
+/// A single phase.
+pub fn step<S: Phases>(
     rt: &impl Abort,
     stepper: &mut S,
     old: &Plane,

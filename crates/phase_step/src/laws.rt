@@ -1,26 +1,14 @@
 //! Laws of phases and runs: which steps of a gas they are. A law is a function with an empty body; its contract is the law.
 
-ghost use Rattle.std.specs.Prelude.{◌≡◌, ℕ, ℤ, ◌+◌, ◌≤◌, pos, ◌-ℤ◌};
+ghost use Rattle.std.specs.Prelude.{◌≡◌, ℕ, ℤ, pos, ◌-ℤ◌};
 ghost use Rattle.std.specs.Fn.{iterate};
-ghost use Rattle.bit_tile.specs.declared.Tile.{Tile};
-ghost use Rattle.tile_border.specs.declared.border.Border.{Border};
-ghost use Rattle.gas_terms.specs.Cells.{Cells, HasEvenSides, IsEvenTorus};
+ghost use Rattle.gas_terms.specs.Cells.{HasEvenSides, IsEvenTorus};
 ghost use Rattle.gas_terms.specs.Velocity.{parity};
 ghost use Rattle.gas_terms.specs.Gas.{Gas, streamed, solid, forward, back, HasNoPorts};
 ghost use Rattle.gas_terms.specs.Accounts.{taken, gas_taken};
 ghost use Rattle.gas_terms.specs.BookedGas.{BookedGas, moved, stepped, stepped_back};
-ghost use Rattle.gas_plane.specs.Planes.{IsTileFrom, IsRingRound};
-ghost use Rattle.block_rule.specs.Around.{around};
-ghost use Rattle.block_rule.specs.Windows.{IsWindow};
 ghost use Rattle.phase_step.specs.Runs.{ran, ran_back};
 ghost use Rattle.phase_step.specs.PortedRuns.{stepped_on};
-
-/// A plane's tile and its border are a window of the torus.
-pub fn tile_and_border_are_a_window()
-    ensures { (t : Tile) (b : Border) (cells : Cells) (x0 y0 : ℕ) → IsTileFrom t cells x0 y0 →
-        IsRingRound b cells x0 y0 →
-        x0 + 64 ≤ cells.width → y0 + 64 ≤ cells.height → IsWindow (around t b) cells x0 y0 }
-{}
 
 /// The phase of a tick's parity is the step forward from it, and that of the parity of the tick before is the step back to
 /// it. What the first takes is what walls and obstacles take in the step forward; what the second takes is what they took in

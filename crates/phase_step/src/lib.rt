@@ -1,14 +1,10 @@
-//! Steps of a gas. A `Stepper` makes a phase or a run of phases of a plane; `Serial` does it on the calling thread. An
-//! `Action` changes the particles after each phase of a run, as ports do.
+//! Steps of a gas. A `Stepper` makes a run of phases of a plane; `Serial` does it on the calling thread. An `Action` changes the
+//! particles after each phase of a run, as ports do.
 //!
-//! The program steps by `Stepper::run_with`, forward and back. `Stepper::phase`, `turn_tile_at`, `act_on` and `Exchange::new` are
-//! there for callers of the library.
+//! The program steps by `Stepper::run_with`, forward and back. `act_on` and `Exchange::new` are there for callers of the library.
 #![tactic(auto)]
 
 ghost use Rattle.std.specs.Prelude.{◌≡◌, ◌<◌};
-ghost use Rattle.gas_terms.specs.Cells.{joined, HasSidesOf};
-ghost use Rattle.gas_terms.specs.Gas.{streamed};
-ghost use Rattle.gas_terms.specs.Accounts.{taken};
 ghost use Rattle.phase_step.specs.Runs.{parity_at};
 ghost use Rattle.phase_step.specs.WholeRuns.{dynamics, every, CanRun, HasRunWhole};
 
@@ -26,10 +22,8 @@ pub use exchanges::{
     Action, ActionFrom, Exchange, Listed, PortArray, Still, add_tiles_of, any_area,
 };
 use gas_plane::Plane;
-use gas_terms::Took;
 pub use parts::{Part, act_on, run_part, run_whole, turn_strip};
-use steps::turn_each;
-pub use steps::{Solids, turn_tile_at};
+pub use steps::{Solids, TileSolids, count_tile, turn_even_tile, window_in};
 pub use sums::{CellCounts, Flow};
 
 /// A run of n phases in which particles meet these walls and obstacles, from the given parity on, with an action after each.
@@ -41,26 +35,9 @@ pub struct Run<'a, A: Action> {
     pub action: &'a A,
 }
 
-/// Steps the particles of a plane. A phase never fails: if memory runs out or a thread can't be started, it only takes longer.
+/// Steps the particles of a plane. A run never fails: if memory runs out or a thread can't be started, it only takes longer.
 /// `Serial` never allocates.
 pub trait Stepper: Drop {
-    /// Makes the phase of parity 0 or 1: `out` becomes the particles after it. Returns what walls and obstacles took of the
-    /// particles of `old`.
-    fn phase(
-        &mut self,
-        old: &Plane,
-        walls: &Plane,
-        obstacles: &Plane,
-        parity: u8,
-        out: &mut Plane,
-    ) -> Took
-        requires parity { parity < 2 }
-        requires walls { HasSidesOf walls.now old.now }
-        requires obstacles { HasSidesOf obstacles.now old.now }
-        requires out { HasSidesOf out.old old.now }
-        ensures out { out.new ≡ streamed parity old.now (joined walls.now obstacles.now) }
-        ensures took { result ≡ taken parity old.now walls.now obstacles.now };
-
     /// A run of n phases of alternating parities, with the action after each. `particles` become those after the run. Returns
     /// what walls and obstacles took in all of it, and what the action brought in and took out.
     fn run_with<A: Action>(&mut self, particles: &mut Plane, run: Run<'_, A>) -> Flow
@@ -80,22 +57,11 @@ pub fn parity_at(parity: u8, k: u16) -> u8
     ((u32::from(parity) + u32::from(k)) % 2) as u8
 }
 
-/// Turns one tile after another on the calling thread.
+/// Steps on the calling thread.
 #[derive(Clone, Copy, Debug, Default, PartialEq, Eq)]
 pub struct Serial;
 
 impl Stepper for Serial {
-    fn phase(
-        &mut self,
-        old: &Plane,
-        walls: &Plane,
-        obstacles: &Plane,
-        parity: u8,
-        out: &mut Plane,
-    ) -> Took {
-        turn_each(old, walls, obstacles, parity, out)
-    }
-
     fn run_with<A: Action>(&mut self, particles: &mut Plane, run: Run<'_, A>) -> Flow {
         run_whole(particles, run, Counted::BOTH)
     }

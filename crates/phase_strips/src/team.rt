@@ -6,9 +6,8 @@ ghost use Rattle.phase_strips.specs.Limits.{most_workers};
 
 use crate::runs::{LeastRun, Strips, is_worth_strips, run_by, strips_for};
 use gas_plane::Plane;
-use gas_terms::Took;
 use phase_step::{
-    Action, Counted, Flow, Run, Serial, Stepper, account_to_count, parity_at, run_whole,
+    Action, Counted, Flow, Run, Stepper, account_to_count, parity_at, run_whole,
     with_missing_account,
 };
 use std::alloc::Global;
@@ -53,8 +52,8 @@ impl Solo {
 }
 
 /// A team of 1 to 16 workers that makes runs by strips. The calling thread is worker 0; the others are threads that are started
-/// for each run. A run never fails: if memory runs out or a thread can't be started, the calling thread makes it. A single phase
-/// is made by the calling thread. Contracts see the number of workers.
+/// for each run. A run never fails: if memory runs out or a thread can't be started, the calling thread makes it. Contracts see
+/// the number of workers.
 #[derive(Drop)]
 pub struct StripTeam<R: Threads + Drop> {
     rt: R,
@@ -122,17 +121,6 @@ impl<R: Threads + Drop> StripTeam<R> {
 }
 
 impl<R: Threads + Clock + Drop> Stepper for StripTeam<R> {
-    fn phase(
-        &mut self,
-        old: &Plane,
-        walls: &Plane,
-        obstacles: &Plane,
-        parity: u8,
-        out: &mut Plane,
-    ) -> Took {
-        Serial.phase(old, walls, obstacles, parity, out)
-    }
-
     // Among walls, a run keeps one account, and works the other out from the momentum. What there is at the end is kept for the
     // next run.
     fn run_with<A: Action>(&mut self, particles: &mut Plane, run: Run<'_, A>) -> Flow {

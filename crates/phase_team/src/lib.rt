@@ -1,4 +1,4 @@
-//! Single phases of a gas on 1 to 16 threads: a `Team` is a `Stepper` and gives the same results as `Serial`.
+//! Single phases of a gas on 1 to 16 threads: a `Team` gives the same results as `Serial`, in phases and as a `Stepper`.
 //!
 //! A single phase (`Team::phase`) is made by workers that draw its tiles one by one at a desk. Each calls the team's `Gate` after
 //! each draw. The team makes runs by the `StripTeam` that it has inside (`phase_strips`).

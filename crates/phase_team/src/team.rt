@@ -12,6 +12,7 @@ use gas_plane::Plane;
 use gas_terms::Took;
 use phase_step::{Action, Flow, Run, Serial, Stepper};
 use phase_strips::{LeastRun, StripTeam};
+use single_phase::Phases;
 use std::alloc::Global;
 use std::marker::Model;
 use std::thread::Threads;
@@ -65,7 +66,7 @@ impl<R: Threads + Drop, G: Gate + Drop> Team<R, G> {
         self.strips.was_by_strips()
     }
 
-    /// `Stepper::phase` by the workers, with any gate.
+    /// `Phases::phase` by the workers, with any gate.
     pub fn phase(
         &mut self,
         old: &Plane,
@@ -131,7 +132,7 @@ impl<R: Threads + Drop, G: Gate + Drop> Team<R, G> {
     }
 }
 
-impl<R: Threads + Clock + Drop> Stepper for Team<R, NoGate> {
+impl<R: Threads + Drop> Phases for Team<R, NoGate> {
     fn phase(
         &mut self,
         old: &Plane,
@@ -145,7 +146,9 @@ impl<R: Threads + Clock + Drop> Stepper for Team<R, NoGate> {
         }
         self.phase(old, walls, obstacles, parity, out)
     }
+}
 
+impl<R: Threads + Clock + Drop> Stepper for Team<R, NoGate> {
     fn run_with<A: Action>(&mut self, particles: &mut Plane, run: Run<'_, A>) -> Flow {
         self.strips.run_with(particles, run)
     }

@@ -7,7 +7,7 @@ ghost use Rattle.phase_team.specs.Teamwork.{IsTileAfterTask, take_of};
 use crate::phase::shift::Task;
 use gas_plane::Tile;
 use gas_terms::Took;
-use phase_step::turn_tile_at;
+use single_phase::turn_tile_at;
 
 impl Task<'_> {
     /// Puts tile i into `out` as it is after the phase, and returns what walls and obstacles take of its particles.

@@ -8,9 +8,10 @@ use Rattle.block_rule.specs.Windows.{taken_in}
 use Rattle.phase_step.specs.Runs.{tiles_take}
 use Rattle.phase_step.specs.Turns.{IsTileAfter}
 use Rattle.phase_step.specs.WholeRuns.{every}
-use Rattle.phase_step.proofs.PhaseSweeps.{tiles_as, tiles_are, phased, phase_next, phase_ends}
+use Rattle.phase_step.proofs.PhaseSweeps.{tiles_as, tiles_are}
+use Rattle.single_phase.proofs.PhaseSweeps.{phased, phase_next, phase_ends}
 use Rattle.phase_step.proofs.TileFlows.{take_fits, all_take}
-use Rattle.phase_step.proofs.steps.sweep.turn_each.Goals as goal
+use Rattle.single_phase.proofs.SerialPhases.phase.Goals as goal
 
 pub loop-i-init : goal.loop-i-init
 loop-i-init c =

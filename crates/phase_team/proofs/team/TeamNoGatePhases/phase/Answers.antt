@@ -1,5 +1,5 @@
 use Rattle.std.proofs.Common.{rules}
-use Rattle.phase_team.proofs.team.TeamNoGateStepper.phase.Goals as goal
+use Rattle.phase_team.proofs.team.TeamNoGatePhases.phase.Goals as goal
 
 pub returns-then-workers-eq1-clause-out : goal.returns-then-workers-eq1-clause-out
 returns-then-workers-eq1-clause-out g c = search rules

@@ -11,8 +11,8 @@ use Rattle.phase_step.specs.Turns.{IsTileAfter}
 use Rattle.phase_step.proofs.PhaseSweeps.{sized_as, tiles_as}
 use Rattle.block_rule.proofs.BlockNames.{named_alone, nothing_named}
 use Rattle.phase_step.proofs.SolidBlocks.{named_on, named_beside}
-use Rattle.phase_step.proofs.steps.tiles.turn_tile_at.Goals as goal
-use Rattle.phase_step.proofs.steps.tiles.turn_tile_at.Goals.{After-count_tile-took}
+use Rattle.single_phase.proofs.tiles.turn_tile_at.Goals as goal
+use Rattle.single_phase.proofs.tiles.turn_tile_at.Goals.{After-count_tile-took}
 
 pub rows_round-rows-requires : goal.rows_round-rows-requires
 rows_round-rows-requires c = let row = row_in c.args.old.now c.args.at.tile c.requires.lattice c.requires.tile in let e = c.requires.position.row in omega (arith, row, e)

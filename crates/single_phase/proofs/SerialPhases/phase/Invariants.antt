@@ -1,8 +1,8 @@
 use Rattle.std.proofs.Common.{◌≡◌, ◌/◌}
 use Rattle.gas_plane.specs.Planes.{swept, IsPosition}
 use Rattle.phase_step.specs.Runs.{tiles_take}
-use Rattle.phase_step.proofs.PhaseSweeps.{phased}
-use Rattle.phase_step.proofs.steps.sweep.turn_each.Given as goal
+use Rattle.single_phase.proofs.PhaseSweeps.{phased}
+use Rattle.single_phase.proofs.SerialPhases.phase.Given as goal
 
 abbrev pub invariant-loop-i : goal.invariant-loop-i
 invariant-loop-i l = record {

@@ -11,7 +11,7 @@ use Rattle.phase_step.specs.SolidBlocks.{view_of}
 use Rattle.phase_step.proofs.PhaseSweeps.{place_is}
 use Rattle.phase_step.proofs.SolidBlocks.{given_in_view}
 use Rattle.phase_step.proofs.TurnedTiles.{border_near, window_view, window_seen}
-use Rattle.phase_step.proofs.steps.tiles.turn_odd_tile.Goals as goal
+use Rattle.single_phase.proofs.tiles.turn_odd_tile.Goals as goal
 
 tile_of_column : (rows : TileRows) (column : ℕ) (cells : Cells) (i : ℕ) (t : Tile) → IsColumnOf rows column cells i → IsTileFrom t cells (column * 64) (i / (cells.width / 64) * 64) → IsTileFrom t cells (i % (cells.width / 64) * 64) (i / (cells.width / 64) * 64)
 tile_of_column rows column cells i t at from = subst (λ c. IsTileFrom t cells (c * 64) (i / (cells.width / 64) * 64)) at.place from
