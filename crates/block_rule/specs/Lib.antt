@@ -1,4 +1,3 @@
-pub mod Block
 pub mod Around
 pub mod Windows
 pub mod Classes

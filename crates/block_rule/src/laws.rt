@@ -4,9 +4,7 @@
 ghost use Rattle.std.specs.Prelude.{◌≡◌, ℕ, ◌+◌, ◌<◌, ◌≤◌, Bool, ℤ, pos};
 ghost use Rattle.bit_tile.specs.Tile.{HasCells};
 ghost use Rattle.bit_tile.specs.declared.Tile.{Tile as TileRows};
-ghost use Rattle.tile_border.specs.Ring.{IsBorderOf};
 ghost use Rattle.tile_border.specs.declared.border.Border.{Border as RingCells};
-ghost use Rattle.tile_border.specs.declared.border.Neighbors.{Neighbors as EightTiles};
 ghost use Rattle.gas_terms.specs.Velocity.{parity};
 ghost use Rattle.gas_terms.specs.Cells.{Cells, joined};
 ghost use Rattle.gas_terms.specs.Cells as plane;
@@ -14,7 +12,6 @@ ghost use Rattle.gas_terms.specs.Gas.{streamed};
 ghost use Rattle.gas_terms.specs.declared.accounts.Pair.{Pair};
 ghost use Rattle.gas_terms.specs.declared.accounts.Took.{Took};
 ghost use Rattle.block_rule.specs.Around.{around, turned_window, either, none, taken_in_tile};
-ghost use Rattle.block_rule.specs.Rows.{ShowsTile, ShowsRound};
 ghost use Rattle.block_rule.specs.Windows.{IsWindow, IsView, IsTilePlace, IsAround, square, taken_in};
 
 /// A tile and its border have all cells of the torus that the tile's blocks need. At even parity the tile alone has them.
@@ -24,13 +21,6 @@ pub fn tiles_see_the_torus()
     ensures inside { (t : TileRows) (b : RingCells) (cells : Cells) (x0 y0 : ℕ) →
         x0 + 64 ≤ cells.width → y0 + 64 ≤ cells.height →
         HasCells t (λ x y. plane.has cells (x0 + x) (y0 + y)) → IsView 0 (around t b) cells x0 y0 }
-{}
-
-/// A tile with its border is a window on the tiles round it.
-pub fn borders_are_windows()
-    ensures tile { (t : TileRows) (b : RingCells) → ShowsTile (around t b) t }
-    ensures round { (t : TileRows) (near : EightTiles) (b : RingCells) →
-        IsBorderOf b near → ShowsRound (around t b) near }
 {}
 
 /// The block rule on a tile is the step of the torus.

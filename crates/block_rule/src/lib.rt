@@ -1,8 +1,7 @@
-//! The block rule of the HPP gas: for one block of 2 by 2 cells, and for a tile, 32 blocks at once.
+//! The block rule of the HPP gas on a tile, 32 blocks of 2 by 2 cells at once.
 //!
 //! The program calls `turn_tile_even`, the functions of `in_place` at odd parity, `taken_among` before both if an account is kept,
-//! and `TileBlocks::renew` for the walled blocks of a tile. `turn_tile_odd` and `tile_blocks` serve single phases. The module
-//! `one_tile`, with `turn_block` and `turn_tile`, is for callers of the library.
+//! and `TileBlocks::renew` for the walled blocks of a tile. `turn_tile_odd` serves single phases.
 #![tactic(auto)]
 
 mod apply_rule;
@@ -14,18 +13,16 @@ mod count;
 mod in_place;
 pub mod laws;
 mod odd_rows;
-mod one_tile;
 mod tile_phase;
 mod walled;
 
 use bit_tile::Tile;
 pub use blocks::Beside;
-pub use blocks_in_tile::{OddBlocks, SetBlocks, TileBlocks, tile_blocks};
+pub use blocks_in_tile::{OddBlocks, SetBlocks, TileBlocks};
 pub use in_place::{
     Carry, SeamRow, TurnedRow, put_bottom, put_first_column, put_top, seam_row, turn_inner,
     turned_seam,
 };
-pub use one_tile::{turn_block, turn_tile};
 use tile_border::Round;
 pub use tile_phase::{taken_among, turn_tile_even, turn_tile_odd};
 pub use walled::Counted;

@@ -1,4 +1,4 @@
-//! A single phase of a gas, from one plane into another, and the phase of one tile. `Serial` makes a phase on the calling thread.
+//! A single phase of a gas, from one plane into another, of one tile and of one block. `Serial` makes a phase on the calling thread.
 //!
 //! All of it is there for callers of the library. The program makes runs alone, in place, by `phase_step`.
 #![tactic(auto)]
@@ -9,12 +9,16 @@ ghost use Rattle.gas_terms.specs.Gas.{streamed};
 ghost use Rattle.gas_terms.specs.Accounts.{taken};
 
 pub mod laws;
+mod one_tile;
 mod tiles;
+mod walled_blocks;
 
 use gas_plane::Plane;
 use gas_terms::Took;
+pub use one_tile::{turn_block, turn_tile};
 use phase_step::Serial;
 pub use tiles::turn_tile_at;
+pub use walled_blocks::tile_blocks;
 
 /// Makes single phases. A phase never fails: if memory runs out or a thread can't be started, it only takes longer. `Serial` never
 /// allocates.

@@ -1,20 +1,18 @@
-//! One block, and one tile with its border. The program does not use them: they are for callers of the library.
+//! One block, and one tile with its border.
 
 ghost use Rattle.std.specs.Prelude.{◌≡◌, ℕ, ◌<◌, Bool, not, ◌&&◌};
 ghost use Rattle.bit_tile.specs.Tile.{has, HasCells};
 ghost use Rattle.gas_terms.specs.Velocity.{Velocity, opposite, outcome};
-ghost use Rattle.block_rule.specs.Block.{channels_of};
+ghost use Rattle.single_phase.specs.Block.{channels_of};
 ghost use Rattle.block_rule.specs.Around.{around, turned_window, either, is_walled_at, twice_momentum_in, taken_in_tile};
 ghost use Rattle.block_rule.specs.Shown.{IsSeenIn};
 ghost use Rattle.tile_border.specs.Ring.{IsBorderOf};
 ghost use Rattle.tile_border.specs.declared.border.Border.{Border as BorderValue};
 ghost use Rattle.gas_terms.specs.Accounts.{pair_plus};
 
-use crate::Window;
-use crate::blocks_in_tile::{SetBlocks, tile_blocks};
-use crate::tile_phase::{taken_among, turn_tile_even, turn_tile_odd};
-use crate::walled::Counted;
+use crate::walled_blocks::tile_blocks;
 use bit_tile::Tile;
+use block_rule::{Counted, SetBlocks, Window, taken_among, turn_tile_even, turn_tile_odd};
 use gas_terms::Took;
 use tile_border::{Border, Neighbors};
 

@@ -4,8 +4,8 @@ use Rattle.block_rule.specs.TileBlocks.{NamesBlocks, walled_by}
 use Rattle.block_rule.proofs.BlockNames.{nothing_named, named_alone}
 use Rattle.block_rule.proofs.Borders.{shows_tile}
 use Rattle.block_rule.proofs.Took.{took_together}
-use Rattle.block_rule.proofs.one_tile.turn_tile.Goals as goal
-use Rattle.block_rule.proofs.one_tile.turn_tile.Goals.{After-taken_among-took}
+use Rattle.single_phase.proofs.one_tile.turn_tile.Goals as goal
+use Rattle.single_phase.proofs.one_tile.turn_tile.Goals.{After-taken_among-took}
 
 -- walls and obstacles with those round them, their words, and what is taken
 module _ (c : After-taken_among-took) where

@@ -1,6 +1,6 @@
 use Rattle.std.proofs.Common.{false, arith, inl, inr}
 use Rattle.block_rule.proofs.BlockNames.{nothing_named}
-use Rattle.block_rule.proofs.blocks_in_tile.tile_blocks.Goals as goal
+use Rattle.single_phase.proofs.walled_blocks.tile_blocks.Goals as goal
 
 pub returns : goal.returns
 returns c = λ some other seen others.
