@@ -185,10 +185,10 @@ pub fn turn_seam(particles: &mut Plane, known: KnownSolid<'_>, place: RowPlace)
     let under = *particles.tile(below * across);
     let none = Beside { upper: 0, lower: 0 };
     let seam = seam_at(particles, across, row, below, last, &first, &under);
-    let mut coming = turned_seam(known.in_tile(there + last), seam, none).leaving;
+    let mut coming = turned_seam(known.words_in(there + last), seam, none).leaving;
     for column in 0..across {
         let seam = seam_at(particles, across, row, below, column, &first, &under);
-        let words = turned_seam(known.in_tile(there + column), seam, coming);
+        let words = turned_seam(known.words_in(there + column), seam, coming);
         coming = put_seam(particles, across, row, below, column, &words);
     }
 }

@@ -40,4 +40,17 @@ impl<'a> KnownSolid<'a> {
             self.solids.walled_in(i)
         }
     }
+
+    /// The same, without a look whether there are any. For one of their words that look takes longer than the word.
+    #[inline(always)]
+    pub fn words_in(self, i: u32) -> Option<SetBlocks<'a>>
+        requires { i < tile_count (all_of self.solids.now) }
+        ensures { AreGivenBlocks result (is_walled_in (all_of self.entry.solids.now) i) }
+    {
+        if self.free {
+            None
+        } else {
+            Some(self.solids.words_in(i))
+        }
+    }
 }

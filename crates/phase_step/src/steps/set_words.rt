@@ -65,6 +65,20 @@ impl SetWords {
         Ok(SetWords { rows, blocks })
     }
 
+    /// The words of tile i.
+    #[inline(always)]
+    pub fn of_tile(&self, i: u32) -> SetBlocks<'_>
+        requires { (i < length self.now.rows.items) × (i < length self.now.blocks.items) }
+        ensures { (set : Cells) → i < tile_count set →
+            AreBlocksOf set self.now.rows.items self.now.blocks.items →
+            NamesBlocks result.rows result.blocks.now (is_walled_in set i) }
+    {
+        SetBlocks {
+            rows: self.rows[i as usize],
+            blocks: &self.blocks[i as usize],
+        }
+    }
+
     /// The blocks of tile i that have a cell of the set, if there are any.
     #[inline(always)]
     pub fn in_tile(&self, i: u32) -> Option<SetBlocks<'_>>
@@ -73,14 +87,11 @@ impl SetWords {
             AreBlocksOf set self.now.rows.items self.now.blocks.items →
             AreGivenBlocks result (is_walled_in set i) }
     {
-        let rows = self.rows[i as usize];
-        if rows == 0 {
+        let words = self.of_tile(i);
+        if words.rows == 0 {
             return None;
         }
-        Some(SetBlocks {
-            rows,
-            blocks: &self.blocks[i as usize],
-        })
+        Some(words)
     }
 }
 
@@ -141,10 +152,7 @@ fn others_at(others: Option<&SetWords>, i: u32) -> SetBlocks<'_>
         NamesBlocks result.rows result.blocks.now (is_walled_in other i) }
 {
     match others {
-        Some(words) => SetBlocks {
-            rows: words.rows[i as usize],
-            blocks: &words.blocks[i as usize],
-        },
+        Some(words) => words.of_tile(i),
         None => SetBlocks::NONE,
     }
 }

@@ -3,7 +3,7 @@
 ghost use Rattle.std.specs.Prelude.{◌≡◌, ◌<◌, ◌⊎◌, false, IfOk, IsTrue};
 ghost use Rattle.gas_terms.specs.Cells.{cells_where, filled, cleared, joined, tile_count, HasSidesOf};
 ghost use Rattle.gas_plane.specs.Planes.{HasNone};
-ghost use Rattle.block_rule.specs.TileBlocks.{AreGivenBlocks};
+ghost use Rattle.block_rule.specs.TileBlocks.{AreGivenBlocks, NamesBlocks};
 ghost use Rattle.phase_step.specs.SolidBlocks.{is_walled_in, AreBlocksOf, AreTileSolids, AreOfNone, HasNoBlocks};
 
 use crate::steps::set_words::{SetWords, renew, renew_alone};
@@ -179,6 +179,16 @@ impl Solids {
             (is_walled_in (joined self.now.walls self.now.obstacles) i) }
     {
         self.of_all.in_tile(i)
+    }
+
+    /// The words of the walled blocks of tile i, also if there are none.
+    #[inline(always)]
+    pub fn words_in(&self, i: u32) -> SetBlocks<'_>
+        requires { i < tile_count self.now.walls }
+        ensures { NamesBlocks result.rows result.blocks.now
+            (is_walled_in (joined self.now.walls self.now.obstacles) i) }
+    {
+        self.of_all.of_tile(i)
     }
 
     /// The walled blocks of tile i, and those of them that have an obstacle.

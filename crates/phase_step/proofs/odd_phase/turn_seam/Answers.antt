@@ -40,7 +40,7 @@ loop-column-init c =
     let old = c.args.particles.now in
     let place = c.args.place in
     let column = c.across-across.result - 1 in
-    let given = c.in_tile.result in
+    let given = c.words_in.result in
     let sized = c.across-across.ensures.lattice.sized in
     let first = c.tile.result.now in
     let under = c.tile-2.result.now in
@@ -50,7 +50,7 @@ loop-column-init c =
           let less = (tiles after lattice is).less in
           let last = (tiles after lattice is).last in
           let e = (tiles after lattice is).all in
-          let named = given_there place column solid old lattice is less given (subst (λ a. AreGivenBlocks given (is_walled_in solid (place.there * a + column))) e c.in_tile.ensures) in
+          let named = given_there place column solid old lattice is less given (subst (λ a. AreGivenBlocks given (is_walled_in solid (place.there * a + column))) e c.words_in.ensures) in
           let shown = c.seam_at-seam.ensures (upper_edge place column solid old lattice is less sized c.requires.row c.requires.below ready) (lower_edge place column solid old lattice is less sized c.requires.row c.requires.below ready)
           (last_edge place column solid old lattice is less sized c.requires.row c.requires.below ready first under (first_are after) last) (window place column solid old lattice is less)
           (last_bottom place column solid old lattice is less sized c.requires.row c.requires.below ready first under (first_are after) last) (last_top place column solid old lattice is less sized c.requires.row c.requires.below ready first under (first_are after) last)
@@ -68,7 +68,7 @@ loop-column-preserved c =
     let l = c.loop-column in
     let column = l.column in
     let now = l.particles in
-    let given = c.in_tile-in-loop-column.result in
+    let given = c.words_in-in-loop-column.result in
     let sized = c.across-across.ensures.lattice.sized in
     let first = c.tile.result.now in
     let under = c.tile-2.result.now in
@@ -80,7 +80,7 @@ loop-column-preserved c =
           let e = (tiles after lattice is).all in
           let less : column < lattice.width / 64 = subst (λ a. column < a) e c.loop-column-test.true in
           let so_far = l.invariant.turned lattice is ready in
-          let named = given_there place column solid old lattice is less given (subst (λ a. AreGivenBlocks given (is_walled_in solid (place.there * a + column))) e c.in_tile-in-loop-column.ensures) in
+          let named = given_there place column solid old lattice is less given (subst (λ a. AreGivenBlocks given (is_walled_in solid (place.there * a + column))) e c.words_in-in-loop-column.ensures) in
           let shown = c.seam_at-seam-in-loop-column.ensures (upper_edge place column solid old lattice is less sized c.requires.row c.requires.below ready) (lower_edge place column solid old lattice is less sized c.requires.row c.requires.below ready)
           (is_seam_edge place column solid old lattice is less sized c.requires.row c.requires.below ready first under (first_are after) now l.coming so_far) (window place column solid old lattice is less)
           (own_bottom place column solid old lattice is less sized c.requires.row c.requires.below ready first under (first_are after) now l.coming so_far) (own_top place column solid old lattice is less sized c.requires.row c.requires.below ready first under (first_are after) now l.coming so_far)
