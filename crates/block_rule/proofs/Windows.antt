@@ -1,13 +1,13 @@
 -- Rows of blocks, seen in the window of a tile and its ring.
-use Rattle.std.proofs.Common.{◌≡◌, ◌⊎◌, ℕ, ◌+◌, ◌-◌, ◌*◌, ◌/◌, ◌%◌, ◌<◌, ◌≤◌, ◌==◌, Bool, if◌then◌else◌, List, length, get_or, set, sym, ◌∙◌, ap, ap₂, arith, get_or-set_other, get_or-set_same}
-use Rattle.std.proofs.lemmas.Bool.{cases_eq, cases_lt, eq-eqb, ne_eqb}
+use Rattle.std.proofs.Common.{◌≡◌, ℕ, ◌+◌, ◌-◌, ◌*◌, ◌/◌, ◌%◌, ◌<◌, ◌==◌, Bool, if◌then◌else◌, length, get_or, set, sym, ◌∙◌, ap, ap₂, arith, get_or-set_other, get_or-set_same}
+use Rattle.std.proofs.lemmas.Bool.{cases_eq, eq-eqb, ne_eqb}
 use Rattle.bit_tile.specs.Bit.{bit}
 use Rattle.bit_tile.specs.Tile.{HasCells}
 use Rattle.bit_tile.specs.declared.Tile.{Tile}
 use Rattle.bit_tile.proofs.Classes.{by_class, even_even_at, odd_even_at, even_odd_at, odd_odd_at}
 use Rattle.block_rule.specs.Cell.{made, partner}
 use Rattle.tile_border.specs.declared.border.Neighbors.{Neighbors}
-use Rattle.block_rule.specs.Rows.{ShowsTile, ShowsRound, IsMade, ShowsRows, AreMadeOdd, AreUpper, AreLower, even_row, odd_row, beside_left, beside_right, eight_row}
+use Rattle.block_rule.specs.Rows.{ShowsTile, ShowsRound, IsMade, ShowsRows, even_row, odd_row, beside_left, beside_right, eight_row}
 use Rattle.block_rule.specs.declared.blocks.Blocks.{Blocks}
 use Rattle.block_rule.specs.declared.blocks.EightRows.{EightRows}
 
@@ -15,13 +15,13 @@ pub cell_by : (cell : Bool → Bool → Bool → Bool → Bool) (a b c d e f g h
 cell_by cell a b c d e f g h p q r s = ap₂ (λ u v. cell u v c d) p q ∙ ap₂ (λ u v. cell e f u v) r s
 
 -- what is made of the cell (x, y), by the places of its block's cells
-made_by_places : (cell : Bool → Bool → Bool → Bool → Bool) (p : ℕ) (cells : ℕ → ℕ → Bool) (x y own_x own_y far_x far_y : ℕ) → x + 1 ≡ own_x → y + 1 ≡ own_y → partner p x ≡ far_x → partner p y ≡ far_y → made cell p cells x y ≡ cell (cells own_x own_y) (cells far_x own_y) (cells own_x far_y) (cells far_x far_y)
+pub made_by_places : (cell : Bool → Bool → Bool → Bool → Bool) (p : ℕ) (cells : ℕ → ℕ → Bool) (x y own_x own_y far_x far_y : ℕ) → x + 1 ≡ own_x → y + 1 ≡ own_y → partner p x ≡ far_x → partner p y ≡ far_y → made cell p cells x y ≡ cell (cells own_x own_y) (cells far_x own_y) (cells own_x far_y) (cells far_x far_y)
 made_by_places cell p cells x y own_x own_y far_x far_y ox oy fx fy = grind arith
 
-partner_first : (p x : ℕ) → (x + p) % 2 ≡ 0 → partner p x ≡ x + 2
+pub partner_first : (p x : ℕ) → (x + p) % 2 ≡ 0 → partner p x ≡ x + 2
 partner_first p x h = rw (eq-eqb ((x + p) % 2) 0 h)
 
-partner_second : (p x : ℕ) → (x + p) % 2 ≡ 1 → partner p x ≡ x
+pub partner_second : (p x : ℕ) → (x + p) % 2 ≡ 1 → partner p x ≡ x
 partner_second p x h = rw (ne_eqb ((x + p) % 2) 0 (λ e. omega arith))
 
 -- the next and the previous class, in the window
@@ -125,57 +125,3 @@ module _ (window : ℕ → ℕ → Bool) (t : Tile) (shows : ShowsTile window t)
         right_upper = round.right 63 (omega arith) ∙ even_odd_at near.right 0 31;
         right_lower = round.below_right ∙ even_even_at near.below_right 0 0;
       }
-
--- the odd blocks' cells
-pub odd_cells : (rule : ℕ → ℕ → Bool → Bool → Bool → Bool → Bool) (window : ℕ → ℕ → Bool) (out : Tile) → ((j : ℕ) → j < 32 → AreUpper (λ i. rule (2 * i + 1) (2 * j + 1)) (λ i. rule (2 * i + 0) (2 * j + 1)) window (2 * j + 2) (get_or out.odd_odd j 0) (get_or out.even_odd j 0))
-    → ((j : ℕ) → j < 32 → AreLower (λ i. rule (2 * i + 1) (2 * j + 0)) (λ i. rule (2 * i + 0) (2 * j + 0)) window (2 * j) (get_or out.odd_even j 0) (get_or out.even_even j 0)) → HasCells out (λ x y. made (rule x y) 1 window x y)
-odd_cells rule window out upper lower =
-    by_class out (λ x y. made (rule x y) 1 window x y)
-    (λ i j h k.
-    (lower j k).right i h
-    ∙ sym (made_by_places (rule (2 * i + 0) (2 * j + 0)) 1 window (2 * i + 0) (2 * j + 0) (2 * i + 1) (2 * j + 1) (2 * i) (2 * j) (omega arith) (omega arith) (partner_second 1 (2 * i + 0) (omega arith) ∙ omega arith) (partner_second 1 (2 * j + 0) (omega arith) ∙ omega arith)))
-    (λ i j h k.
-    (lower j k).left i h
-    ∙ sym (made_by_places (rule (2 * i + 1) (2 * j + 0)) 1 window (2 * i + 1) (2 * j + 0) (2 * i + 2) (2 * j + 1) (2 * i + 3) (2 * j) (omega arith) (omega arith) (partner_first 1 (2 * i + 1) (omega arith) ∙ omega arith) (partner_second 1 (2 * j + 0) (omega arith) ∙ omega arith)))
-    (λ i j h k.
-    (upper j k).right i h
-    ∙ sym (made_by_places (rule (2 * i + 0) (2 * j + 1)) 1 window (2 * i + 0) (2 * j + 1) (2 * i + 1) (2 * j + 2) (2 * i) (2 * j + 2 + 1) (omega arith) (omega arith) (partner_second 1 (2 * i + 0) (omega arith) ∙ omega arith) (partner_first 1 (2 * j + 1) (omega arith) ∙ omega arith)))
-    (λ i j h k.
-    (upper j k).left i h
-    ∙ sym (made_by_places (rule (2 * i + 1) (2 * j + 1)) 1 window (2 * i + 1) (2 * j + 1) (2 * i + 2) (2 * j + 2) (2 * i + 3) (2 * j + 2 + 1) (omega arith) (omega arith) (partner_first 1 (2 * i + 1) (omega arith) ∙ omega arith) (partner_first 1 (2 * j + 1) (omega arith) ∙ omega arith)))
-
-pub upper_same : (l r : ℕ → Bool → Bool → Bool → Bool → Bool) (window : ℕ → ℕ → Bool) (y ul ur vl vr : ℕ) → ul ≡ vl → ur ≡ vr → AreUpper l r window y vl vr → AreUpper l r window y ul ur
-upper_same l r window y ul ur vl vr e f is = rw (e, f) is
-
-pub lower_same : (l r : ℕ → Bool → Bool → Bool → Bool → Bool) (window : ℕ → ℕ → Bool) (y z ll lr ml mr : ℕ) → y ≡ z → ll ≡ ml → lr ≡ mr → AreLower l r window z ml mr → AreLower l r window y ll lr
-lower_same l r window y z ll lr ml mr d e f is = rw (d, e, f) is
-
--- rows that are made after others
-module _ (rule : ℕ → ℕ → Bool → Bool → Bool → Bool → Bool) (window : ℕ → ℕ → Bool) where
-  -- the words of the tile's rows 2 * j + 1 and 2 * j
-  abbrev UpperAt : ℕ → Tile → Type 0
-  UpperAt j t = AreUpper (λ i. rule (2 * i + 1) (2 * j + 1)) (λ i. rule (2 * i + 0) (2 * j + 1)) window (2 * j + 2) (get_or t.odd_odd j 0) (get_or t.even_odd j 0)
-
-  abbrev LowerAfter : ℕ → Tile → Type 0
-  LowerAfter j t = AreLower (λ i. rule (2 * i + 1) (2 * (j + 1) + 0)) (λ i. rule (2 * i + 0) (2 * (j + 1) + 0)) window (2 * j + 2) (get_or t.odd_even (j + 1) 0) (get_or t.even_even (j + 1) 0)
-
-  pub uppers_more : (old new : Tile) (from to : ℕ) → ((j : ℕ) → j < from → UpperAt j old) → ((j : ℕ) → from ≤ j → j < to → AreMadeOdd rule window j (odd_row new j))
-      → ((j : ℕ) → (j < from) ⊎ (to ≤ j) → (get_or new.odd_odd j 0 ≡ get_or old.odd_odd j 0) × (get_or new.even_odd j 0 ≡ get_or old.even_odd j 0))
-      → (j : ℕ) → j < to → UpperAt j new
-  uppers_more old new from to before rows rest j below = grind (arith, cases_lt, upper_same)
-
-  pub lowers_more : (old new : Tile) (from to : ℕ) → ((j : ℕ) → j < from → LowerAfter j old) → ((j : ℕ) → from ≤ j → j < to → AreMadeOdd rule window j (odd_row new j))
-      → ((j : ℕ) → (j ≤ from) ⊎ (to < j) → (get_or new.odd_even j 0 ≡ get_or old.odd_even j 0) × (get_or new.even_even j 0 ≡ get_or old.even_even j 0))
-      → (j : ℕ) → j < to → LowerAfter j new
-  lowers_more old new from to before rows rest j below = grind (arith, cases_lt, lower_same)
-
-  pub upper_end : (odd even : List ℕ) (ul ur j : ℕ) → j ≡ 31 → 31 < length odd → 31 < length even → AreUpper (λ i. rule (2 * i + 1) (2 * 31 + 1)) (λ i. rule (2 * i + 0) (2 * 31 + 1)) window 64 ul ur
-      → AreUpper (λ i. rule (2 * i + 1) (2 * j + 1)) (λ i. rule (2 * i + 0) (2 * j + 1)) window (2 * j + 2) (get_or (set odd 31 ul) j 0) (get_or (set even 31 ur) j 0)
-  upper_end odd even ul ur j e h k is = rw (e, get_or-set_same odd 31 ul 0 h, get_or-set_same even 31 ur 0 k) is
-
-  -- the lower words of row j, which is the one after row j - 1
-  pub lower_next : (t : Tile) (odd even j : ℕ) → (j ≡ 0 → ⊥) → odd ≡ get_or t.odd_even j 0 → even ≡ get_or t.even_even j 0 → LowerAfter (j - 1) t → AreLower (λ i. rule (2 * i + 1) (2 * j + 0)) (λ i. rule (2 * i + 0) (2 * j + 0)) window (2 * j) odd even
-  lower_next t odd even j some e f is = grind arith
-
-pub upper_inner : (l r : ℕ → Bool → Bool → Bool → Bool → Bool) (window : ℕ → ℕ → Bool) (y : ℕ) (odd even : List ℕ) (ul ur j : ℕ) → (j ≡ 31 → ⊥) → AreUpper l r window y (get_or odd j 0) (get_or even j 0) → AreUpper l r window y (get_or (set odd 31 ul) j 0) (get_or (set even 31 ur) j 0)
-upper_inner l r window y odd even ul ur j ne is = grind (arith, upper_same, get_or-set_other)

@@ -3,8 +3,7 @@ use Rattle.bit_tile.specs.Bit.{bit}
 use Rattle.bit_tile.specs.declared.Tile.{Tile}
 use Rattle.block_rule.specs.Around.{is_block_walled, is_walled_at}
 use Rattle.block_rule.specs.Cell.{turned_cell}
-use Rattle.block_rule.specs.Rows.{AreUpper, AreLower, IsMade, even_row}
-use Rattle.block_rule.specs.declared.blocks.Blocks.{Blocks}
+use Rattle.block_rule.specs.Rows.{IsMade, even_row}
 use Rattle.block_rule.specs.declared.blocks_in_tile.OddBlocks.{OddBlocks}
 
 -- The words name the walled blocks of odd parity: word k of both is of row k of blocks, which begins at the window's row 2 * k. Bit
@@ -22,24 +21,6 @@ NameEvenBlocks words solid = (i j : ℕ) → i < 32 → j < 32 → bit (words j)
 pub record AreCollidedEven (from to : ℕ) (solid : ℕ → ℕ → Bool) (old new : Tile) : Type 0 where
   pub done : (j : ℕ) → from ≤ j → j < to → IsMade (λ i. turned_cell (is_walled_at 0 solid (2 * i) (2 * j))) (even_row old j) (even_row new j)
   pub rest : (j : ℕ) → (j < from) ⊎ (to ≤ j) → even_row new j ≡ even_row old j
-
--- what the collision makes of a row of odd blocks, of which these words name the walled ones
-pub record IsCollidedOdd (begin end : ℕ) (window : ℕ → ℕ → Bool) (y : ℕ) (new : Blocks) : Type 0 where
-  pub upper : AreUpper (λ i. turned_cell (bit begin i)) (λ i. turned_cell (bit end i)) window y new.upper_left new.upper_right
-  pub lower : AreLower (λ i. turned_cell (bit begin i)) (λ i. turned_cell (bit end i)) window y new.lower_left new.lower_right
-
--- the rule of a cell among walled blocks
-abbrev pub rule_among : (ℕ → ℕ → Bool) → ℕ → ℕ → Bool → Bool → Bool → Bool → Bool
-rule_among solid x y = turned_cell (is_walled_at 1 solid x y)
-
--- The words of the tile's rows 2 * j + 1 and 2 * j + 2 are made: those of row j of the odd blocks inside it.
-pub record AreWordsMade (window solid : ℕ → ℕ → Bool) (out : Tile) (j : ℕ) : Type 0 where
-  pub upper : AreUpper (λ i. rule_among solid (2 * i + 1) (2 * j + 1)) (λ i. rule_among solid (2 * i + 0) (2 * j + 1)) window (2 * j + 2) (slice_index out.odd_odd j) (slice_index out.even_odd j)
-  pub lower : AreLower (λ i. rule_among solid (2 * i + 1) (2 * (j + 1) + 0)) (λ i. rule_among solid (2 * i + 0) (2 * (j + 1) + 0)) window (2 * j + 2) (slice_index out.odd_even (j + 1)) (slice_index out.even_even (j + 1))
-
--- and those of the rows of odd blocks before row n
-abbrev pub AreMadeUpTo : ℕ → (ℕ → ℕ → Bool) → (ℕ → ℕ → Bool) → Tile → Type 0
-AreMadeUpTo n window solid out = (j : ℕ) → j < n → j < 31 → AreWordsMade window solid out j
 
 -- The words name the blocks of even parity, or of odd, that are filled by the cells that pass the test. A block of odd parity is
 -- named by the tile's cell in it: row k of blocks is that of row 2 * k - 1, or of row 0.

@@ -96,17 +96,3 @@ beside_right r j = record { upper = slice_index r.even_odd j; lower = slice_inde
 abbrev pub ShowsInnerRows : (ℕ → ℕ → Bool) → Tile → Tile → Tile → Type 0
 ShowsInnerRows window t left right =
     (j : ℕ) → j < 31 → ShowsRows window (2 * j + 2) (odd_row t j) (beside_left left j) (beside_right right j)
-
--- the upper and the lower words of a row of odd blocks after rules of their columns
-pub record AreUpper (left_rule right_rule : ℕ → Bool → Bool → Bool → Bool → Bool) (window : ℕ → ℕ → Bool) (y ul ur : ℕ) : Type 0 where
-  pub left : (i : ℕ) → i < 32 → bit ul i ≡ left_rule i (window (2 * i + 2) y) (window (2 * i + 3) y) (window (2 * i + 2) (y + 1)) (window (2 * i + 3) (y + 1))
-  pub right : (i : ℕ) → i < 32 → bit ur i ≡ right_rule i (window (2 * i + 1) y) (window (2 * i) y) (window (2 * i + 1) (y + 1)) (window (2 * i) (y + 1))
-
-pub record AreLower (left_rule right_rule : ℕ → Bool → Bool → Bool → Bool → Bool) (window : ℕ → ℕ → Bool) (y ll lr : ℕ) : Type 0 where
-  pub left : (i : ℕ) → i < 32 → bit ll i ≡ left_rule i (window (2 * i + 2) (y + 1)) (window (2 * i + 3) (y + 1)) (window (2 * i + 2) y) (window (2 * i + 3) y)
-  pub right : (i : ℕ) → i < 32 → bit lr i ≡ right_rule i (window (2 * i + 1) (y + 1)) (window (2 * i) (y + 1)) (window (2 * i + 1) y) (window (2 * i) y)
-
--- the row that begins in the tile's odd row j, after the rule of each cell
-pub record AreMadeOdd (rule : ℕ → ℕ → Bool → Bool → Bool → Bool → Bool) (window : ℕ → ℕ → Bool) (j : ℕ) (new : Blocks) : Type 0 where
-  pub upper : AreUpper (λ i. rule (2 * i + 1) (2 * j + 1)) (λ i. rule (2 * i + 0) (2 * j + 1)) window (2 * j + 2) new.upper_left new.upper_right
-  pub lower : AreLower (λ i. rule (2 * i + 1) (2 * (j + 1) + 0)) (λ i. rule (2 * i + 0) (2 * (j + 1) + 0)) window (2 * j + 2) new.lower_left new.lower_right

@@ -1,4 +1,4 @@
-//! A phase of one tile, at even and at odd parity, and what its walls and obstacles take.
+//! A phase of one tile at even parity, and what walls and obstacles take in a phase of either parity.
 
 ghost use Rattle.std.specs.Prelude.{◌≡◌, ℕ, ◌+◌, ◌*◌, ◌<◌, Bool, ◌&&◌, slice_index};
 ghost use Rattle.bit_tile.specs.Tile.{has, HasCells};
@@ -6,18 +6,16 @@ ghost use Rattle.block_rule.specs.Around.{turned_window, either, is_walled_at, i
 ghost use Rattle.gas_terms.specs.Accounts.{IsTakenOfAtMost};
 ghost use Rattle.block_rule.specs.Accounts.{if_counted, counted_of};
 ghost use Rattle.block_rule.specs.Rows.{ShowsTile};
-ghost use Rattle.block_rule.specs.Shown.{IsSeenIn, TellsRows};
+ghost use Rattle.block_rule.specs.Shown.{TellsRows};
 ghost use Rattle.block_rule.specs.NamedBlocks.{AreEvenBlocksOf, AreOddBlocksOf};
 ghost use Rattle.block_rule.specs.TileBlocks.{NamesBlocks, AreGivenBlocks, walled_by};
 
-use crate::Window;
 use crate::apply_rule::make_even;
 use crate::blocks::Collision;
 use crate::blocks_in_tile::{OddBlocks, SetBlocks};
 use crate::collide_even::collide_even;
-use crate::collide_odd::collide_odd;
 use crate::count::{Classes, count_class, momentum};
-use crate::walled::{Counted, NoBlocks, OfSet};
+use crate::walled::{Counted, OfSet};
 use bit_tile::Tile;
 use gas_terms::{Pair, Took};
 
@@ -166,18 +164,5 @@ pub fn turn_tile_even(tile: &mut Tile, walled: Option<SetBlocks<'_>>)
     match walled {
         None => make_even(Collision, tile),
         Some(set) => collide_even(OfSet { set }, tile),
-    }
-}
-
-/// Puts a tile into `out` as it is after its blocks have turned at odd parity, where they reach into the eight tiles round it.
-pub fn turn_tile_odd(particles: &Window, walled: Option<SetBlocks<'_>>, out: &mut Tile)
-    ensures { (window solid : ℕ → ℕ → Bool) → IsSeenIn particles.now window →
-        AreGivenBlocks walled.entry (walled_by solid) →
-        HasCells out.new (turned_window 1 window solid) }
-{
-    let Window { tile, round } = particles;
-    match walled {
-        None => collide_odd(NoBlocks, tile, round, out),
-        Some(set) => collide_odd(OfSet { set }, tile, round, out),
     }
 }

@@ -24,8 +24,6 @@ pub trait Walled: Copy {
 
     ghost begins: { Self → ℕ → ℕ };
 
-    ghost ends: { Self → ℕ → ℕ };
-
     fn rows(self) -> u32
         ensures { result ≡ row_pairs self };
 
@@ -36,10 +34,6 @@ pub trait Walled: Copy {
     fn begin(self, k: usize) -> u32
         requires { k < 33 }
         ensures { result ≡ begins self k };
-
-    fn end(self, k: usize) -> u32
-        requires { k < 33 }
-        ensures { result ≡ ends self k };
 }
 
 /// No block is walled.
@@ -53,8 +47,6 @@ impl Walled for NoBlocks {
 
     ghost begins = { λ _ _. 0 };
 
-    ghost ends = { λ _ _. 0 };
-
     #[inline]
     fn rows(self) -> u32 {
         0
@@ -67,11 +59,6 @@ impl Walled for NoBlocks {
 
     #[inline]
     fn begin(self, _k: usize) -> u32 {
-        0
-    }
-
-    #[inline]
-    fn end(self, _k: usize) -> u32 {
         0
     }
 }
@@ -89,8 +76,6 @@ impl<'a> Walled for OfSet<'a> {
 
     ghost begins = { λ b k. slice_index b.set.blocks.now.odd.begin k };
 
-    ghost ends = { λ b k. slice_index b.set.blocks.now.odd.end k };
-
     #[inline]
     fn rows(self) -> u32 {
         self.set.rows
@@ -104,11 +89,6 @@ impl<'a> Walled for OfSet<'a> {
     #[inline]
     fn begin(self, k: usize) -> u32 {
         self.set.blocks.odd.begin[k]
-    }
-
-    #[inline]
-    fn end(self, k: usize) -> u32 {
-        self.set.blocks.odd.end[k]
     }
 }
 

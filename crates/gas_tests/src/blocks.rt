@@ -6,10 +6,10 @@ use crate::lattices::same_cells;
 use bit_tile::Tile;
 use block_rule::{
     Beside, Carry, Counted, SetBlocks, TileBlocks, Window, put_bottom, put_first_column, put_top,
-    seam_row, taken_among, turn_inner, turn_tile_even, turn_tile_odd, turned_seam,
+    seam_row, taken_among, turn_inner, turn_tile_even, turned_seam,
 };
 use gas_terms::Took;
-use single_phase::{tile_blocks, turn_block, turn_tile};
+use single_phase::{tile_blocks, turn_block, turn_tile, turn_tile_odd};
 use std::process::Abort;
 use tile_border::{Border, Neighbors};
 

@@ -1,1 +1,2 @@
 pub mod PhaseSweeps
+pub mod OddTiles

@@ -9,12 +9,14 @@ ghost use Rattle.gas_terms.specs.Gas.{streamed};
 ghost use Rattle.gas_terms.specs.Accounts.{taken};
 
 pub mod laws;
+mod odd_tile;
 mod one_tile;
 mod tiles;
 mod walled_blocks;
 
 use gas_plane::Plane;
 use gas_terms::Took;
+pub use odd_tile::turn_tile_odd;
 pub use one_tile::{turn_block, turn_tile};
 use phase_step::Serial;
 pub use tiles::turn_tile_at;

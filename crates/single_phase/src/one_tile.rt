@@ -10,9 +10,10 @@ ghost use Rattle.tile_border.specs.Ring.{IsBorderOf};
 ghost use Rattle.tile_border.specs.declared.border.Border.{Border as BorderValue};
 ghost use Rattle.gas_terms.specs.Accounts.{pair_plus};
 
+use crate::odd_tile::turn_tile_odd;
 use crate::walled_blocks::tile_blocks;
 use bit_tile::Tile;
-use block_rule::{Counted, SetBlocks, Window, taken_among, turn_tile_even, turn_tile_odd};
+use block_rule::{Counted, SetBlocks, Window, taken_among, turn_tile_even};
 use gas_terms::Took;
 use tile_border::{Border, Neighbors};
 

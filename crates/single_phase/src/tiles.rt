@@ -9,8 +9,9 @@ ghost use Rattle.block_rule.specs.Windows.{taken_in};
 ghost use Rattle.phase_step.specs.SolidBlocks.{is_walled_in};
 ghost use Rattle.phase_step.specs.Turns.{IsTileAfter};
 
+use crate::odd_tile::turn_tile_odd;
 use crate::walled_blocks::tile_blocks;
-use block_rule::{Counted, SetBlocks, Window, turn_tile_odd};
+use block_rule::{Counted, SetBlocks, Window};
 use gas_plane::{Plane, Position, Tile, TileRows};
 use gas_terms::Took;
 use phase_step::{TileSolids, count_tile, turn_even_tile, window_in};

@@ -2,7 +2,7 @@ use Rattle.std.proofs.Common.{sym, ◌∙◌}
 use Rattle.bit_tile.specs.Bit.{bit}
 use Rattle.block_rule.specs.Cell.{turned_cell}
 use Rattle.block_rule.proofs.Windows.{cell_by, next_shown, previous_shown}
-use Rattle.block_rule.proofs.collide_odd.collided_odd.Goals as goal
+use Rattle.single_phase.proofs.odd_tile.collided_odd.Goals as goal
 
 pub returns : goal.returns
 returns c = λ window y s.
