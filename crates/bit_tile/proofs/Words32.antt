@@ -1,5 +1,5 @@
 -- Bits of words of 32.
-use Rattle.std.proofs.Common.{◌≡◌, ℕ, ◌-◌, ◌*◌, ◌/◌, ◌%◌, ◌^◌, ◌<◌, ◌≤◌, ◌==◌, Bool, true, false, not, ◌&&◌, refl, sym, ◌∙◌, ap, arith, inl, inr, if◌then◌else◌, nat_le, nat_lt, lit<}
+use Rattle.std.proofs.Common.{◌≡◌, ℕ, ◌-◌, ◌*◌, ◌/◌, ◌%◌, ◌^◌, ◌<◌, ◌≤◌, ◌==◌, true, false, not, ◌&&◌, refl, sym, ◌∙◌, ap, arith, inl, inr, if◌then◌else◌, nat_le, nat_lt, lit<}
 use Rattle.std.specs.Prelude.{bit_and, bit_or}
 use Rattle.std.specs.Int.{bit_at, bit_not, w32}
 use Rattle.std.proofs.lemmas.Nat.Bits.{bit_at-lt, bit_at_not, bit_at_set_same, bit_at_set_other, bit_at_clear_same, bit_at_clear_other, bit_at_ones}
@@ -59,9 +59,6 @@ bit-ones i within = ap (λ m. m == 1) (bit_at_ones 32 i within)
 -- no number is y or more and below y
 pub bit_of_none : (first end : ℕ) → first ≡ end → (i : ℕ) → bit 0 i ≡ (nat_le first i && nat_lt i end)
 bit_of_none first end e i = bit-zero i ∙ grind (arith, nat_tests)
-
-pub none_between : (b : Bool) (first j : ℕ) → false ≡ (b && nat_le first j && nat_lt j first)
-none_between b first j = grind (arith, nat_tests)
 
 -- `(MAX >> 32 - n) << first` has the bits from `first` up to `end`
 pub bit_of_span : (first end : ℕ) → (first ≡ end → ⊥) → first ≤ end → end ≤ 32 → (i : ℕ) → i < 32 → bit ((2 ^ 32 - 1) / 2 ^ (32 - (end - first)) * 2 ^ first % 2 ^ 32) i ≡ (nat_le first i && nat_lt i end)

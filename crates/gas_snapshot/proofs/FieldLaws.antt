@@ -270,9 +270,6 @@ pub drain_again : (size : Extent) (r : Rectangle) (rest : List ℕ) → IsSmall 
 unfolding drain_at drain
 drain_again size r rest small ok = grind (arith, area_back, field_again)
 
-abbrev made_source : Rectangle → ℕ → Source
-made_source area period = record { area = area; period = period }
-
 pub source_again : (size : Extent) (s : Source) (rest : List ℕ) → IsSmall s.area → s.period < 2 ^ 16 → suits size s ≡ true → source_at size (source s ++ rest) ≡ Ok (s, rest)
 unfolding source_at source drain
 source_again size s rest small low ok = grind (arith, area_back, word_back, field_again)

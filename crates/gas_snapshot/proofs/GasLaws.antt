@@ -81,9 +81,6 @@ obstacles_whole Two h p w bytes e =
     ∙ ap (λ (b : Bool). cond b (done (gas_of h.tick p w (cells_in h.size (take (part h.size) bytes)) h.ports)) (Err Trailing)) (is_zero (length (drop (part h.size) bytes)) (omega (arith, length-drop (part h.size) bytes)))
     ∙ ap (λ (b : List ℕ). done (gas_of h.tick p w (cells_in h.size b) h.ports)) (whole_taken (part h.size) bytes len)
 
-abbrev second_cells : Head → List ℕ → Cells × List ℕ → Result Gas SnapFault
-second_cells h bytes p = cells_at h.size p.1 >>= λ w. obstacles_at h.version h.size w.1 >>= ended h p.0 w.0
-
 -- the first two sets, where they are there
 two_there : (h : Head) (bytes : List ℕ) → 2 * part h.size ≤ length bytes
     → body_at h bytes ≡ (obstacles_at h.version h.size (drop (part h.size) (drop (part h.size) bytes)) >>= ended h (cells_in h.size (take (part h.size) bytes)) (cells_in h.size (take (part h.size) (drop (part h.size) bytes))))
