@@ -1,4 +1,4 @@
-//! The tiles round a tile of a plane, and their border.
+//! The tiles round a tile of a plane.
 
 ghost use Rattle.std.specs.Prelude.{◌≡◌, ℕ, ◌+◌, ◌*◌, ◌/◌, ◌<◌};
 ghost use Rattle.gas_terms.specs.Cells.{Cells, tile_count, tile_rectangle};
@@ -11,7 +11,7 @@ use crate::Plane;
 use crate::aligned_tile::AlignedTile;
 use crate::circle::{after, before};
 use bit_tile::Tile;
-use tile_border::{Border, Round};
+use tile_border::Round;
 
 /// A tile's number, and the column and the row of tiles that it is in.
 #[derive(Clone, Copy, Debug, PartialEq, Eq)]
@@ -142,16 +142,6 @@ impl Plane {
             here: self.rooms_from(row),
             below: self.rooms_from(after(row, down)),
         }
-    }
-
-    /// The cells round tile i.
-    pub fn border(&self, i: u32) -> Border
-        requires { i < tile_count self.now }
-        ensures { let r = tile_rectangle self.now i in IsRingRound result self.now r.x r.y }
-    {
-        let mut border = Border::EMPTY;
-        border.surround(&self.round(i));
-        border
     }
 
     /// The position of tile i.

@@ -1,7 +1,7 @@
 //! A plane: a set of cells of a lattice, stored as tiles. The lattice is a torus.
 //!
-//! The program uses all of it but `Plane::get` and `Plane::border`, which are for callers of the library, and
-//! `TileRows::tile`, which serves single phases.
+//! The program uses all of it but `Plane::get`, which is for callers of the library, and `TileRows::tile`, which serves single
+//! phases.
 #![tactic(auto)]
 
 ghost use Rattle.std.specs.Borrow.{sem};

@@ -10,6 +10,7 @@ use crate::gases::sums;
 use crate::lattices::{are_same, expect_cells, holds, plane};
 use gas_plane::{Plane, Tile, Turner, word_of};
 use gas_terms::{Rect, Size};
+use single_phase::border;
 use std::process::Abort;
 use tile_border::Round;
 
@@ -53,7 +54,7 @@ fn empty_tile(rt: &impl Abort, plane: &mut Plane, i: u32) {
 
 fn expect_border(rt: &impl Abort, plane: &Plane, i: u32, cells: &[(Side, i32, bool)]) {
     expect_that(&rt, i < plane.size().tiles());
-    expect_ring(rt, &plane.border(i), cells);
+    expect_ring(rt, &border(plane, i), cells);
 }
 
 #[test]

@@ -8,12 +8,14 @@ ghost use Rattle.gas_terms.specs.Cells.{joined, HasSidesOf};
 ghost use Rattle.gas_terms.specs.Gas.{streamed};
 ghost use Rattle.gas_terms.specs.Accounts.{taken};
 
+mod borders;
 pub mod laws;
 mod odd_tile;
 mod one_tile;
 mod tiles;
 mod walled_blocks;
 
+pub use borders::border;
 use gas_plane::Plane;
 use gas_terms::Took;
 pub use odd_tile::turn_tile_odd;
