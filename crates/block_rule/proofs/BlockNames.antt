@@ -11,7 +11,7 @@ use Rattle.block_rule.specs.declared.blocks.Blocks.{Blocks}
 use Rattle.std.proofs.lemmas.Bool.{cases_eq, cases_lt, eq-eqb, ne_eqb}
 use Rattle.block_rule.specs.Shown.{TellsRows}
 use Rattle.block_rule.specs.NamedBlocks.{AreEvenBlocksOf, AreOddBlocksOf}
-use Rattle.block_rule.specs.TileBlocks.{NamesBlocks, DifferInRows, walled_by}
+use Rattle.block_rule.specs.TileBlocks.{NamesBlocks, DifferInRows}
 use Rattle.block_rule.specs.declared.blocks_in_tile.OddBlocks.{OddBlocks}
 use Rattle.block_rule.specs.declared.blocks_in_tile.TileBlocks.{TileBlocks}
 use Rattle.block_rule.proofs.Blank.{walled_either}
@@ -37,13 +37,6 @@ nothing_named =
 -- what is named by one test is named by another that says the same
 pub names_same : (row_pairs : ℕ) (b : TileBlocks) (test other : ℕ → ℕ → ℕ → Bool) → ((p x y : ℕ) → p < 2 → x < 64 → y < 64 → test p x y ≡ other p x y) → NamesBlocks row_pairs b test → NamesBlocks row_pairs b other
 names_same row_pairs b test other same are = grind (arith)
-
-or_false : (a : Bool) → (a || false) ≡ a
-or_false a = grind arith
-
-pub named_alone : (row_pairs : ℕ) (b : TileBlocks) (window : ℕ → ℕ → Bool) → NamesBlocks row_pairs b (walled_by (either window (λ _ _. false))) → NamesBlocks row_pairs b (walled_by window)
-named_alone row_pairs b window =
-    names_same row_pairs b (walled_by (either window (λ _ _. false))) (walled_by window) (λ p x y _ _ _. walled_either p window (λ _ _. false) x y ∙ or_false (is_walled_at p window x y))
 
 -- any word of blocks that lie in rows 2 * j and 2 * j + 1, as the loop joins them
 abbrev pub any_of : TileBlocks → ℕ → ℕ

@@ -53,13 +53,6 @@ named_here set i told b w sized within from named =
     (window_is_view p near set (tile_rectangle set i).x (tile_rectangle set i).y two (tile_window i set set w.tile.now ring.0 refl refl place.right place.bottom from.tile (from.round ring.0 ring.1))) x y h k)
     (named near (window_seen w))
 
--- on the torus of another set
-pub named_on : (set old : Cells) (i told : ℕ) (b : TileBlocks) (w : Window) → HasSidesOf set old → is_size (extent old) ≡ true → i < tile_count old → IsWindowFrom w set (tile_rectangle set i).x (tile_rectangle set i).y → ((window : ℕ → ℕ → Bool) → IsSeenIn w window → NamesBlocks told b (walled_by window))
-    → NamesBlocks told b (is_walled_in set i)
-named_on set old i told b w sides sized within from named =
-    let back : HasSidesOf old set = record { wide = sym sides.wide; high = sym sides.high } in
-    named_here set i told b w (sized_as old set back sized) (omega (arith, within, tiles_as set old sides)) from named
-
 -- a tile's blocks depend on the tile and the ring round it
 pub walled_alike : (p : ℕ) (some others : ℕ → ℕ → Bool) (x y : ℕ) → x < 64 → y < 64 → ((u v : ℕ) → u ≤ 65 → v ≤ 65 → some u v ≡ others u v) → is_walled_at p some x y ≡ is_walled_at p others x y
 walled_alike p some others x y h k same = grind (arith, block_start, has_parity)

@@ -1,2 +1,3 @@
 pub mod PhaseSweeps
 pub mod OddTiles
+pub mod NamedTiles

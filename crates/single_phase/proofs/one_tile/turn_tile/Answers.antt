@@ -1,7 +1,8 @@
 use Rattle.std.proofs.Common.{◌≡◌, ℕ, Bool, false, arith}
 use Rattle.block_rule.specs.Around.{around, either, taken_in_tile}
 use Rattle.block_rule.specs.TileBlocks.{NamesBlocks, walled_by}
-use Rattle.block_rule.proofs.BlockNames.{nothing_named, named_alone}
+use Rattle.block_rule.proofs.BlockNames.{nothing_named}
+use Rattle.single_phase.proofs.NamedTiles.{named_alone}
 use Rattle.block_rule.proofs.Borders.{shows_tile}
 use Rattle.block_rule.proofs.Took.{took_together}
 use Rattle.single_phase.proofs.one_tile.turn_tile.Goals as goal

@@ -9,8 +9,9 @@ use Rattle.block_rule.specs.TileBlocks.{NamesBlocks}
 use Rattle.phase_step.specs.SolidBlocks.{is_walled_in}
 use Rattle.phase_step.specs.Turns.{IsTileAfter}
 use Rattle.phase_step.proofs.PhaseSweeps.{sized_as, tiles_as}
-use Rattle.block_rule.proofs.BlockNames.{named_alone, nothing_named}
-use Rattle.phase_step.proofs.SolidBlocks.{named_on, named_beside}
+use Rattle.block_rule.proofs.BlockNames.{nothing_named}
+use Rattle.phase_step.proofs.SolidBlocks.{named_beside}
+use Rattle.single_phase.proofs.NamedTiles.{named_alone, named_on}
 use Rattle.single_phase.proofs.tiles.turn_tile_at.Goals as goal
 use Rattle.single_phase.proofs.tiles.turn_tile_at.Goals.{After-count_tile-took}
 
