@@ -20,7 +20,7 @@ pub fn borders_are_windows()
 
 /// A plane's tile and its border are a window of the torus.
 pub fn tile_and_border_are_a_window()
-    ensures { (t : TileRows) (b : RingCells) (cells : Cells) (x0 y0 : ℕ) → IsTileFrom t cells x0 y0 →
-        IsRingRound b cells x0 y0 →
+    ensures { (t : TileRows) (b : RingCells) (cells : Cells) (x0 y0 : ℕ) →
+        IsTileFrom t cells x0 y0 → IsRingRound b cells x0 y0 →
         x0 + 64 ≤ cells.width → y0 + 64 ≤ cells.height → IsWindow (around t b) cells x0 y0 }
 {}
