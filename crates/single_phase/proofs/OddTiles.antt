@@ -69,9 +69,6 @@ module _ (rule : ℕ → ℕ → Bool → Bool → Bool → Bool → Bool) (wind
 pub upper_inner : (l r : ℕ → Bool → Bool → Bool → Bool → Bool) (window : ℕ → ℕ → Bool) (y : ℕ) (odd even : List ℕ) (ul ur j : ℕ) → (j ≡ 31 → ⊥) → AreUpper l r window y (get_or odd j 0) (get_or even j 0) → AreUpper l r window y (get_or (set odd 31 ul) j 0) (get_or (set even 31 ur) j 0)
 upper_inner l r window y odd even ul ur j ne is = grind (arith, upper_same, get_or-set_other)
 
-pub collided_by : (begin end first last : ℕ) (window : ℕ → ℕ → Bool) (y : ℕ) (new : Blocks) → begin ≡ first → end ≡ last → IsCollidedOdd begin end window y new → IsCollidedOdd first last window y new
-collided_by begin end first last window y new e f is = subst (λ n. IsCollidedOdd first n window y new) f (subst (λ n. IsCollidedOdd n end window y new) e is)
-
 module _ (begins ends : ℕ → ℕ) (solid : ℕ → ℕ → Bool) (are : NameBlocks begins ends solid) where
   begin_at : (i k x y : ℕ) → i < 32 → k < 33 → block_start 1 x ≡ 2 * i + 2 → block_start 1 y ≡ 2 * k → bit (begins k) i ≡ is_walled_at 1 solid x y
   begin_at i k x y h below e f = are.begin i k h below ∙ sym (ap₂ (is_block_walled solid) e f)
