@@ -1,4 +1,4 @@
-//! A single phase of a gas, from one plane into another, of one tile and of one block. `Serial` makes a phase on the calling thread.
+//! Single phases: of a plane (`Serial`, on the calling thread), which is read while another is written, of a tile and of a block.
 //!
 //! All of it is there for callers of the library. The program makes runs alone, in place, by `phase_step`.
 #![tactic(auto)]

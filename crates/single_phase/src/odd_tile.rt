@@ -50,8 +50,7 @@ fn collided_odd(row: OddRow, begin: u32, end: u32) -> Blocks
     }
 }
 
-// The tile after the blocks of odd parity have turned, among those that the words name. No other reference leads to it while it is
-// made, so that the compiler makes its rows as vectors.
+// The tile after the blocks of odd parity have turned. The words name the walled ones.
 fn turned_rows(tile: &Tile, near: &Round, walled: &OddBlocks) -> Tile
     ensures { (window solid : ℕ → ℕ → Bool) → ShowsTile window tile.now →
         ShowsAllRound window near.now → AreOddBlocksOf walled.now (is_walled_at 1 solid) →
