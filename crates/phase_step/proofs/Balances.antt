@@ -22,7 +22,7 @@ use Rattle.phase_step.specs.WholeRuns.{Dynamics}
 use Rattle.phase_step.specs.declared.sums.flow.Flow.{Flow}
 use Rattle.phase_step.proofs.ActionRuns.{sides_with}
 use Rattle.phase_step.proofs.FlowSums.{pair_same, took_same, same_flow, IsFlowOf, counted_few}
-use Rattle.phase_step.proofs.PhaseSweeps.{even_sides}
+use Rattle.phase_step.proofs.Sides.{even_sides}
 use Rattle.phase_step.proofs.TileFlows.{few_in_all, tiles_flow_few, tiles_flow_all}
 
 -- sums depend on the parity of the tick alone

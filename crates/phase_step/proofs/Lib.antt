@@ -9,7 +9,7 @@ pub mod ActionRuns
 pub mod ActionParts
 pub mod PortedSteps
 pub mod TurnedTiles
-pub mod PhaseSweeps
+pub mod Sides
 pub mod TileFlows
 pub mod Untaken
 pub mod RunSteps

@@ -18,7 +18,7 @@ use Rattle.phase_step.specs.Actions.{Leaves, acted}
 use Rattle.phase_step.specs.Parts.{row_in, tile_in, made_to, IsPlaced, HasRows, IsOwn, IsPartOf, AreMadeTo}
 use Rattle.phase_step.specs.declared.parts.Part.{Part}
 use Rattle.phase_step.proofs.ActedTiles.{cell_within}
-use Rattle.phase_step.proofs.PhaseSweeps.{sized_as}
+use Rattle.phase_step.proofs.Sides.{sized_as}
 use Rattle.phase_step.proofs.OwnTiles.{own_at, own_past, cell_column, cell_row}
 
 -- the cell (x, y) when tile i is replaced

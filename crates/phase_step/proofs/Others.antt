@@ -3,7 +3,7 @@ use Rattle.std.proofs.Common.{◌≡◌, ℕ, ◌<◌, Bool, false, ◌||◌, Op
 use Rattle.gas_terms.specs.Cells.{Cells, HasSidesOf, joined, has, tile_count}
 use Rattle.gas_terms.proofs.Cells.{has-cells_where, full-cells_where, same_cells}
 use Rattle.gas_plane.specs.Planes.{IsLattice}
-use Rattle.phase_step.proofs.PhaseSweeps.{tiles_as}
+use Rattle.phase_step.proofs.Sides.{tiles_as}
 use Rattle.phase_step.specs.SolidBlocks.{AreBlocksOf}
 use Rattle.phase_step.specs.Others.{nothing_of, AreOthers, DoOthersReach, HaveOthers}
 use Rattle.phase_step.specs.declared.steps.set_words.SetWords.{SetWords}

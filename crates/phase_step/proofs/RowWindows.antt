@@ -18,7 +18,7 @@ use Rattle.phase_step.specs.SolidBlocks.{is_walled_in, view_of}
 use Rattle.phase_step.specs.Turns.{IsPlaceOf}
 use Rattle.phase_step.specs.OddPhase.{IsRowThere, below_there, after_tiles}
 use Rattle.phase_step.specs.declared.odd_phase.RowPlace.{RowPlace}
-use Rattle.phase_step.proofs.PhaseSweeps.{place_is}
+use Rattle.phase_step.proofs.Sides.{place_is}
 use Rattle.phase_step.proofs.SolidBlocks.{given_in_view}
 
 -- how many tiles a row has, and the last of them

@@ -25,7 +25,7 @@ use Rattle.block_rule.proofs.Torus.{walled_same, window_is_view, view_either, so
 use Rattle.phase_step.specs.Turns.{IsWindowFrom}
 use Rattle.phase_step.proofs.TurnedTiles.{bare_view, bare_window, border_near, tile_window, window_seen, window_view}
 use Rattle.phase_step.specs.SolidBlocks.{zero_words, no_words, blocks_at, is_walled_in, view_of, window_of, is_reached, HaveAllTiles, AreBlocksOf, DifferIn, IsFar, IsNearIn, AreRenewedUpTo}
-use Rattle.phase_step.proofs.PhaseSweeps.{place_is, sized_as, tiles_as}
+use Rattle.phase_step.proofs.Sides.{place_is, sized_as, tiles_as}
 use Rattle.block_rule.specs.TileBlocks.{AreGivenBlocks, DifferInRows, walled_by}
 use Rattle.block_rule.proofs.BlockNames.{nothing_named, names_same}
 use Rattle.block_rule.specs.declared.blocks_in_tile.SetBlocks.{SetBlocks}

@@ -21,7 +21,7 @@ use Rattle.phase_step.proofs.ActionRuns.{sides_after, sides_with, sized_with}
 use Rattle.phase_step.proofs.Amounts.{grouped, sum_as, sum_few, sum_none, sum_same}
 use Rattle.phase_step.proofs.FlowSums.{same_flow, flows_add, flows_counted, counted_fit, counted_none, movements_add, takings_add, took_few, none_taken, IsTakenOf}
 use Rattle.phase_step.proofs.PartActs.{still_moves_there}
-use Rattle.phase_step.proofs.PhaseSweeps.{sized_as, tiles_as}
+use Rattle.phase_step.proofs.Sides.{sized_as, tiles_as}
 use Rattle.phase_step.proofs.TileFlows.{all_take, few_in_all, tiles_flow_all, tiles_take_few}
 use Rattle.phase_step.proofs.Untaken.{tiles_untaken}
 

@@ -26,7 +26,7 @@ use Rattle.phase_step.specs.declared.sums.flow.Flow.{Flow}
 use Rattle.phase_step.proofs.ActionRuns.{sized_with, count_with}
 use Rattle.phase_step.proofs.Amounts.{sum_same, sum_from_zero, sum_few, each_below, sum_as, sum_split, sum_both}
 use Rattle.phase_step.proofs.FlowSums.{pair_same, took_same, same_moved, same_flow, totals, takings_add, movements_add, flows_add, counted_plus, flows_counted, IsTakenOf, IsMovedOf, IsFlowOf, none_taken, none_moved, took_few, moved_few, flow_few, counted_fit, flows_fit}
-use Rattle.phase_step.proofs.PhaseSweeps.{even_sides, whole_tiles}
+use Rattle.phase_step.proofs.Sides.{even_sides, whole_tiles}
 
 -- the particles of a tile
 signed : (b : Bool) (m n : ℕ) → nat_abs (sign b *ℤ (pos m -ℤ pos n)) ≤ m + n

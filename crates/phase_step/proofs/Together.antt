@@ -5,7 +5,7 @@ use Rattle.gas_terms.proofs.Cells.{has-cells_where, full-cells_where, same_cells
 use Rattle.gas_plane.specs.Planes.{IsLattice, HasNone}
 use Rattle.block_rule.specs.declared.blocks_in_tile.TileBlocks.{TileBlocks}
 use Rattle.phase_step.specs.SolidBlocks.{HaveAllTiles, AreBlocksOf}
-use Rattle.phase_step.proofs.PhaseSweeps.{tiles_as}
+use Rattle.phase_step.proofs.Sides.{tiles_as}
 
 first_more : (w o r : Bool) → ((w || o) || r) ≡ ((w || r) || o)
 first_more w o r = grind arith

@@ -16,7 +16,7 @@ use Rattle.phase_step.specs.Runs.{nothing_taken, takings, tiles_take}
 use Rattle.phase_step.specs.Parts.{own_rows, own_take, IsPartOf}
 use Rattle.phase_step.specs.SolidBlocks.{AreOfNone, HasNoBlocks}
 use Rattle.phase_step.specs.declared.parts.Part.{Part}
-use Rattle.phase_step.proofs.PhaseSweeps.{place_is, tiles_as}
+use Rattle.phase_step.proofs.Sides.{place_is, tiles_as}
 use Rattle.phase_step.proofs.Amounts.{sum_as, sum_none}
 use Rattle.phase_step.proofs.FlowSums.{took_same, takings_add, counted_none, counted_plus}
 

@@ -10,7 +10,7 @@ use Rattle.block_rule.proofs.Blank.{walled_either}
 use Rattle.block_rule.proofs.BlockNames.{names_same}
 use Rattle.phase_step.specs.SolidBlocks.{is_walled_in}
 use Rattle.phase_step.specs.Turns.{IsWindowFrom}
-use Rattle.phase_step.proofs.PhaseSweeps.{sized_as, tiles_as}
+use Rattle.phase_step.proofs.Sides.{sized_as, tiles_as}
 use Rattle.phase_step.proofs.SolidBlocks.{named_here}
 
 or_false : (a : Bool) → (a || false) ≡ a

@@ -2,7 +2,7 @@ use Rattle.std.proofs.Common.{◌-◌, ◌/◌, ◌*◌, ◌≤◌, ap, arith, m
 use Rattle.gas_terms.specs.Cells.{extent, tile_count}
 use Rattle.gas_plane.proofs.Places.{wide, high}
 use Rattle.phase_step.proofs.OwnTiles.{own_counted, own_each, own_inside}
-use Rattle.phase_step.proofs.PhaseSweeps.{tiles_are}
+use Rattle.phase_step.proofs.Sides.{tiles_are}
 use Rattle.phase_step.proofs.parts.own_tiles.Goals as goal
 
 pub returns-clause-own : goal.returns-clause-own

@@ -8,7 +8,7 @@ use Rattle.block_rule.specs.Windows.{taken_in}
 use Rattle.phase_step.specs.Runs.{tiles_take}
 use Rattle.phase_step.specs.Turns.{IsTileAfter}
 use Rattle.phase_step.specs.WholeRuns.{every}
-use Rattle.phase_step.proofs.PhaseSweeps.{tiles_as, tiles_are}
+use Rattle.phase_step.proofs.Sides.{tiles_as, tiles_are}
 use Rattle.single_phase.proofs.PhaseSweeps.{phased, phase_next, phase_ends}
 use Rattle.phase_step.proofs.TileFlows.{take_fits, all_take}
 use Rattle.single_phase.proofs.SerialPhases.phase.Goals as goal

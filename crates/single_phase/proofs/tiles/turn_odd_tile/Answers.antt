@@ -8,7 +8,7 @@ use Rattle.block_rule.specs.Around.{around}
 use Rattle.block_rule.specs.declared.Window.{Window}
 use Rattle.block_rule.proofs.Torus.{set_turned}
 use Rattle.phase_step.specs.SolidBlocks.{view_of}
-use Rattle.phase_step.proofs.PhaseSweeps.{place_is}
+use Rattle.phase_step.proofs.Sides.{place_is}
 use Rattle.phase_step.proofs.SolidBlocks.{given_in_view}
 use Rattle.phase_step.proofs.TurnedTiles.{border_near, window_view, window_seen}
 use Rattle.single_phase.proofs.tiles.turn_odd_tile.Goals as goal

@@ -8,7 +8,7 @@ use Rattle.block_rule.specs.Windows.{taken_in}
 use Rattle.block_rule.specs.TileBlocks.{NamesBlocks}
 use Rattle.phase_step.specs.SolidBlocks.{is_walled_in}
 use Rattle.phase_step.specs.Turns.{IsTileAfter}
-use Rattle.phase_step.proofs.PhaseSweeps.{sized_as, tiles_as}
+use Rattle.phase_step.proofs.Sides.{sized_as, tiles_as}
 use Rattle.block_rule.proofs.BlockNames.{nothing_named}
 use Rattle.phase_step.proofs.SolidBlocks.{named_beside}
 use Rattle.single_phase.proofs.NamedTiles.{named_alone, named_on}

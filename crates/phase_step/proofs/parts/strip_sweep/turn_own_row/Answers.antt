@@ -4,7 +4,7 @@ use Rattle.gas_terms.specs.Gas.{streamed}
 use Rattle.phase_step.specs.OddPhase.{IsRowThere, HasInner, HasSeam, HasRow, IsBegunTurned, IsEvenRowTurned, place_at}
 use Rattle.phase_step.specs.declared.odd_phase.RowPlace.{RowPlace}
 use Rattle.phase_step.proofs.OddParts.{place_in, row_there_is}
-use Rattle.phase_step.proofs.PhaseSweeps.{sized_as}
+use Rattle.phase_step.proofs.Sides.{sized_as}
 use Rattle.phase_step.proofs.StripSweeps.{inner_on, seam_on, row_ready, row_on}
 use Rattle.phase_step.specs.Solid.{all_of}
 use Rattle.phase_step.proofs.parts.strip_sweep.turn_own_row.Goals as goal

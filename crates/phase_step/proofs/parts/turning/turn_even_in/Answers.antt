@@ -9,7 +9,7 @@ use Rattle.phase_step.specs.declared.odd_phase.RowPlace.{RowPlace}
 use Rattle.phase_step.proofs.MadeCells.{made_next}
 use Rattle.phase_step.proofs.OddParts.{place_in}
 use Rattle.phase_step.proofs.OwnTiles.{down_some, row_turns}
-use Rattle.phase_step.proofs.PhaseSweeps.{sized_as}
+use Rattle.phase_step.proofs.Sides.{sized_as}
 use Rattle.phase_step.specs.Solid.{all_of}
 use Rattle.phase_step.proofs.parts.turning.turn_even_in.Goals as goal
 

@@ -3,7 +3,7 @@ use Rattle.gas_terms.specs.Cells.{extent, is_size}
 use Rattle.gas_terms.specs.Gas.{streamed}
 use Rattle.phase_step.specs.OddPhase.{IsRowThere, HasInner, HasSeam, IsBegunTurned, IsSeamRowTurned, place_at}
 use Rattle.phase_step.specs.declared.odd_phase.RowPlace.{RowPlace}
-use Rattle.phase_step.proofs.PhaseSweeps.{sized_as}
+use Rattle.phase_step.proofs.Sides.{sized_as}
 use Rattle.phase_step.proofs.OddParts.{place_in, row_there_is, inner_ready, seam_ready, margin_done, own_done, odd_row_next}
 use Rattle.phase_step.specs.Solid.{all_of}
 use Rattle.phase_step.proofs.parts.turning.turn_odd_row.Goals as goal

@@ -4,7 +4,7 @@ use Rattle.block_rule.specs.Accounts.{counted_of}
 use Rattle.block_rule.specs.Around.{taken_in_tile}
 use Rattle.block_rule.proofs.TorusTook.{tiles_took}
 use Rattle.phase_step.specs.SolidBlocks.{view_of}
-use Rattle.phase_step.proofs.PhaseSweeps.{place_is}
+use Rattle.phase_step.proofs.Sides.{place_is}
 use Rattle.phase_step.proofs.SolidBlocks.{given_in_view, given_in_both}
 use Rattle.phase_step.proofs.steps.tiles.count_tile.Goals as goal
 

@@ -4,7 +4,7 @@ use Rattle.block_rule.specs.Around.{around}
 use Rattle.block_rule.proofs.Borders.{shows_tile}
 use Rattle.block_rule.proofs.Torus.{inside_is_view, set_turned}
 use Rattle.phase_step.specs.SolidBlocks.{view_of}
-use Rattle.phase_step.proofs.PhaseSweeps.{place_is}
+use Rattle.phase_step.proofs.Sides.{place_is}
 use Rattle.phase_step.proofs.SolidBlocks.{given_in_view}
 use Rattle.phase_step.proofs.TurnedTiles.{any_border}
 use Rattle.phase_step.proofs.steps.tiles.turn_even_tile.Goals as goal

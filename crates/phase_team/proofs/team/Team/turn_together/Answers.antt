@@ -5,7 +5,7 @@ use Rattle.claim_desk.specs.Draws.{once_below}
 use Rattle.phase_team.specs.Teamwork.{drawn}
 use Rattle.phase_team.proofs.DrawnNumbers.{times-drawn}
 use Rattle.phase_team.proofs.Closing.{closes}
-use Rattle.phase_step.proofs.PhaseSweeps.{tiles_are}
+use Rattle.phase_step.proofs.Sides.{tiles_are}
 use Rattle.phase_team.specs.Teamwork.{HasWorked}
 use Rattle.phase_team.proofs.team.Team.turn_together.Goals as goal
 
