@@ -1,5 +1,5 @@
 -- The blocks with a cell of a set: by what its tiles show, and after the set has changed in a rectangle.
-use Rattle.std.proofs.Common.{◌≡◌, ◌⊎◌, ℕ, zero, suc, ◌+◌, ◌-◌, ◌*◌, ◌/◌, ◌%◌, ◌<◌, ◌≤◌, Bool, true, false, ◌&&◌, not, nat_le, nat_lt, List, Option, Some, None, get_or, set, length, replicate, inl, inr, refl, sym, ◌∙◌, ap, ap₂, subst, arith, get_or-set_same, get_or-set_other}
+use Rattle.std.proofs.Common.{◌≡◌, ◌⊎◌, IsTrue, ℕ, zero, suc, ◌+◌, ◌-◌, ◌*◌, ◌/◌, ◌%◌, ◌<◌, ◌≤◌, Bool, true, false, ◌&&◌, not, nat_le, nat_lt, List, Option, Some, None, get_or, set, length, replicate, inl, inr, refl, sym, ◌∙◌, ap, ap₂, subst, arith, get_or-set_same, get_or-set_other}
 use Rattle.std.proofs.lemmas.Bool.{cases_eq, cases_lt}
 use Rattle.std.proofs.lemmas.Bool.Decides.{nat_tests}
 use Rattle.std.proofs.lemmas.Nat.{mod-mul-add}
@@ -231,6 +231,10 @@ module _ (set : Cells) (lattice : IsLattice set) (none : HasNone set) (n : ℕ) 
 
 pub has_none : (set : Cells) (width height : ℕ) → set ≡ cells_where width height (λ _ _. false) → HasNone set
 has_none set width height e = subst HasNone (sym e) (record { cell = λ x y h k. has-cells_where width height (λ _ _. false) x y h k })
+
+-- what a flag that is false says
+pub is_so : (b : Bool) → not b ≡ false → IsTrue b
+is_so b e = grind arith
 
 -- a set of which cells were removed
 pub still_none : (set now : Cells) (area : Rectangle) (had : Bool) → now ≡ cleared set area → (had ≡ false → HasNone set) → (had ≡ false) ⊎ HasNone now → HasNone now

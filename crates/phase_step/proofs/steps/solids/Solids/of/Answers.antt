@@ -1,8 +1,5 @@
-use Rattle.std.proofs.Common.{◌≡◌, Bool, false, not, IsTrue, arith}
+use Rattle.phase_step.proofs.SolidBlocks.{is_so}
 use Rattle.phase_step.proofs.steps.solids.Solids.of.Goals as goal
-
-is_so : (b : Bool) → not b ≡ false → IsTrue b
-is_so b e = grind arith
 
 pub invariant_of-result : goal.invariant_of-result
 invariant_of-result c =
