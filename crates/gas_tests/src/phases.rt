@@ -128,6 +128,7 @@ fn words_name_the_blocks_of_walls(rt: HostRuntime) {
     let first = Rect::within(size, 0, 0, 1, 1).expect(&rt, "a cell");
     expect_that(&rt, first.fits(size));
     walls.remove(first);
+    expect_that(&rt, !walls.are_none());
     expect_that(&rt, named(&walls, 0, 0) == (0, 0, 0));
     expect_that(&rt, named(&walls, 0, 10) == (1024, 1024, 2048));
     expect_that(&rt, named(&walls, 1, 0) == (0, 0, 0));
@@ -139,6 +140,11 @@ fn words_name_the_blocks_of_walls(rt: HostRuntime) {
     expect_that(&rt, named(&walls, 0, 0) == (1, 0, 1));
     expect_that(&rt, named(&walls, 0, 10) == (1024, 1024, 2048));
     expect_that(&rt, named(&walls, 1, 0) == (0, 2147483648, 0));
+    // Without both there are none again.
+    let all = Rect::within(size, 0, 0, 128, 128).expect(&rt, "the lattice");
+    expect_that(&rt, all.fits(size));
+    walls.remove(all);
+    expect_that(&rt, walls.are_none());
 }
 
 #[test]

@@ -256,7 +256,7 @@ fn expect_wide_borders(rt: &impl Abort, plane: &Plane) {
 }
 
 fn is_bare(plane: &Plane, i: u32) -> bool {
-    i < plane.size().tiles() && plane.is_bare(i)
+    i < plane.size().tiles() && plane.tile(i).is_empty()
 }
 
 // A plane of five by five tiles with a cell in tile 0.
