@@ -1,5 +1,5 @@
 -- Reading from left to right, with the first fault that is met.
-use Rattle.std.specs.Prelude.{◌≡◌, IsOk, ℕ, zero, suc, ◌*◌, ◌/◌, ◌&&◌, ◌==◌, nat_lt, nat_le, Bool, ℤ, List, [], ◌∷◌, length, take, drop, slice_index, Result, Ok, Err, if◌then◌else◌, bytes_eq}
+use Rattle.std.specs.Prelude.{◌≡◌, IsOk, ℕ, zero, suc, ◌*◌, ◌/◌, ◌&&◌, ◌==◌, nat_lt, nat_le, Bool, ℤ, List, [], ◌∷◌, ◌++◌, length, take, drop, slice_index, Result, Ok, Err, if◌then◌else◌, bytes_eq}
 use Rattle.std.specs.Int.{w16, w64, from_be_bytes, cast_signed}
 use Rattle.gas_terms.specs.Cells.{Cells, Extent, Rectangle, cells_where, most_side, is_size, lies_within}
 use Rattle.gas_terms.specs.Rows.{row_has}
@@ -89,6 +89,13 @@ source_at size bytes = do
   field ← field_at 10 bytes
   if lies_within size (area_in field.0) && is_period (number 4 field.0)
       then Ok (source_in field.0, field.1) else Err Port
+
+-- a list of what was read, and one more
+abbrev pub and_one : {A : Type 0}
+    → List A → Result (A × List ℕ) SnapFault → Result (List A × List ℕ) SnapFault
+and_one front read = do
+  one ← read
+  Ok (front ++ one.0 ∷ [], one.1)
 
 -- so many fields of one kind
 unfoldable pub many : {A : Type 0} → (List ℕ → Result (A × List ℕ) SnapFault)

@@ -1,14 +1,15 @@
 //! Reads the fields before the cells, one by one from the front.
 
-ghost use Rattle.std.specs.Prelude.{◌≡◌, ◌≤◌, ◌<◌, ◌+◌, ◌*◌, ◌&&◌, true, nat_le, ℕ, [], Some, None, Ok, Err, IfOk, if◌then◌else◌, length, bytes_eq};
-ghost use Rattle.gas_terms.specs.Cells.{lies_within};
+ghost use Rattle.std.specs.Prelude.{◌≡◌, ◌≤◌, ◌<◌, ◌+◌, ◌*◌, ◌&&◌, true, nat_le, ℕ, List, [], Some, None, Result, Ok, Err, IfOk, if◌then◌else◌, length, bytes_eq};
+ghost use Rattle.gas_terms.specs.Cells.{Extent, lies_within};
 ghost use Rattle.gas_terms.specs.Gas.{most_ports};
 ghost use Rattle.gas_terms.specs.Commands.{is_tick, is_period};
-ghost use Rattle.gas_ledger.specs.PortLists.{no_ports};
+ghost use Rattle.gas_ledger.specs.PortLists.{PortLists, no_ports};
 ghost use Rattle.gas_snapshot.specs.declared.version.Version.TheVariants.{One, Two};
+ghost use Rattle.gas_snapshot.specs.declared.fault.SnapFault.{SnapFault};
 ghost use Rattle.gas_snapshot.specs.declared.fault.SnapFault.TheVariants.{Magic, Size as SizeFault, Tick as TickFault, Port as PortFault};
 ghost use Rattle.gas_snapshot.specs.Spelling.{magic};
-ghost use Rattle.gas_snapshot.specs.Reading.{IsAsRead, magic_at, size_at, tick_at, counts_at, greatest_side, is_size_of, field_at, number, size_in, tick_in, are_few, counts_in, area_in, source_in, drain_at, source_at, many, ports_at, head_with, head_at};
+ghost use Rattle.gas_snapshot.specs.Reading.{IsAsRead, magic_at, size_at, tick_at, counts_at, greatest_side, is_size_of, field_at, number, size_in, tick_in, are_few, counts_in, area_in, source_in, drain_at, source_at, and_one, many, ports_at, head_with, head_at};
 
 use crate::fault::SnapFault;
 use crate::version::{MOST_OLD_SIDE, Version};
@@ -134,48 +135,73 @@ fn source(size: Size, field: &[u8]) -> Result<Source, SnapFault>
     }
 }
 
-fn drains<'a>(
-    size: Size,
-    count: u8,
-    ports: &mut Ports,
-    bytes: &'a [u8],
-) -> Result<&'a [u8], SnapFault>
-    requires few { count ≤ most_ports }
-    requires none { ports.old.drains ≡ [] }
-    ensures drains { IsAsRead (λ x. (ports.new.drains, x.now)) result
-        (many (drain_at size) count bytes.now) }
-    ensures sources { ports.new.sources ≡ ports.old.sources }
-{
-    let mut rest = bytes;
-    'drains: for _ in 0..count {
-        let (drain, after) = field(8, rest)?;
+// What the field of a port says: of a drain its area, of a source also its period. `these` are the ports of its kind, and
+// `without` takes them away.
+trait PortField {
+    ghost one_at: { Extent → List ℕ → Result (Self × List ℕ) SnapFault };
+
+    ghost these: { PortLists → List Self };
+
+    ghost without: { PortLists → PortLists };
+
+    // Reads the next field, and adds its port.
+    fn add<'a>(size: Size, ports: &mut Ports, bytes: &'a [u8]) -> Result<&'a [u8], SnapFault>
+        requires { length (these ports.old) < most_ports }
+        ensures these { IsAsRead (λ x. (these ports.new, x.now)) result
+            (and_one (these ports.old) (one_at size bytes.now)) }
+        ensures others { without ports.new ≡ without ports.old };
+}
+
+impl PortField for Rect {
+    ghost one_at = { drain_at };
+
+    ghost these = { λ ports. ports.drains };
+
+    ghost without = { λ ports. record ports { drains = [] } };
+
+    #[tactic(auto, unfolding(crate::specs::Reading::drain_at))]
+    fn add<'a>(size: Size, ports: &mut Ports, bytes: &'a [u8]) -> Result<&'a [u8], SnapFault> {
+        let (drain, rest) = field(8, bytes)?;
         let Some(area) = area(size, drain) else {
             return Err(SnapFault::Port);
         };
         ports.push(Port::Drain(area));
-        rest = after;
+        Ok(rest)
     }
-    Ok(rest)
 }
 
-fn sources<'a>(
+impl PortField for Source {
+    ghost one_at = { source_at };
+
+    ghost these = { λ ports. ports.sources };
+
+    ghost without = { λ ports. record ports { sources = [] } };
+
+    #[tactic(auto, unfolding(crate::specs::Reading::source_at))]
+    fn add<'a>(size: Size, ports: &mut Ports, bytes: &'a [u8]) -> Result<&'a [u8], SnapFault> {
+        let (field, rest) = field(10, bytes)?;
+        let Source { area, period } = source(size, field)?;
+        ports.push(Port::Source(area, period));
+        Ok(rest)
+    }
+}
+
+#[tactic(auto, using(crate::proofs::Loops::goes_on, crate::proofs::Loops::one_longer), unfolding(crate::specs::Reading::many))]
+fn add_each<'a, P: PortField>(
     size: Size,
     count: u8,
     ports: &mut Ports,
     bytes: &'a [u8],
 ) -> Result<&'a [u8], SnapFault>
     requires few { count ≤ most_ports }
-    requires none { ports.old.sources ≡ [] }
-    ensures sources { IsAsRead (λ x. (ports.new.sources, x.now)) result
-        (many (source_at size) count bytes.now) }
-    ensures drains { ports.new.drains ≡ ports.old.drains }
+    requires none { P.these ports.old ≡ [] }
+    ensures these { IsAsRead (λ x. (P.these ports.new, x.now)) result
+        (many (P.one_at size) count bytes.now) }
+    ensures others { P.without ports.new ≡ P.without ports.old }
 {
     let mut rest = bytes;
-    'sources: for _ in 0..count {
-        let (bytes, after) = field(10, rest)?;
-        let Source { area, period } = source(size, bytes)?;
-        ports.push(Port::Source(area, period));
-        rest = after;
+    'fields: for _ in 0..count {
+        rest = P::add(size, ports, rest)?;
     }
     Ok(rest)
 }
@@ -192,9 +218,8 @@ fn add_ports<'a>(
     requires none { ports.old ≡ no_ports }
     ensures { IsAsRead (λ x. (ports.new, x.now)) result (ports_at size counts bytes.now) }
 {
-    let rest = drains(size, counts.0, ports, bytes)?;
-    let rest = sources(size, counts.1, ports, rest)?;
-    Ok(rest)
+    let rest = add_each::<Rect>(size, counts.0, ports, bytes)?;
+    add_each::<Source>(size, counts.1, ports, rest)
 }
 
 #[tactic(auto, unfolding(crate::specs::Reading::magic_at))]
