@@ -50,7 +50,7 @@ pub struct LeastRun {
 
 impl LeastRun {
     /// That of the program. A run by strips starts threads, loads the strips and puts them together, and its threads wait for each
-    /// other in every second phase. So what one thread makes in some ten milliseconds stays on one thread.
+    /// other in every second phase. So what one thread makes in three or four milliseconds stays on one thread.
     pub const USUAL: LeastRun = LeastRun {
         phases: 16,
         tiles: 131_072,
