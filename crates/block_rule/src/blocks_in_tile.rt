@@ -9,9 +9,8 @@ ghost use Rattle.block_rule.specs.NamedBlocks.{AreEvenBlocksOf, AreOddBlocksOf};
 ghost use Rattle.block_rule.specs.TileBlocks.{NamesBlocks, DifferInRows, walled_by};
 
 use crate::Window;
-use crate::apply_rule::made_odd;
 use crate::blocks::{AnyCorner, Blocks, Rule};
-use crate::odd_rows::{OddRow, bottom_row, inner_row, top_row};
+use crate::odd_rows::{OddRow, bottom_row, inner_row, made_odd, top_row};
 use bit_tile::Tile;
 
 /// Blocks of a tile at odd parity: words for the row of blocks at its top, those that begin in its odd rows 0 to 30, and the one at

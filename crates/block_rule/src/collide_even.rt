@@ -1,17 +1,37 @@
-//! The collision at even parity among walled blocks.
+//! The collision at even parity, among no walled blocks and among some.
 
 ghost use Rattle.std.specs.Prelude.{◌≡◌, ℕ, ◌+◌, ◌<◌, ◌≤◌, ◌⊎◌, Bool};
 ghost use Rattle.bit_tile.specs.Bit.{bit};
 ghost use Rattle.bit_tile.specs.Tile.{HasCells};
 ghost use Rattle.block_rule.specs.Around.{is_walled_at, turned_window};
-ghost use Rattle.block_rule.specs.Cell.{turned_cell};
+ghost use Rattle.block_rule.specs.Cell.{made, turned_cell};
 ghost use Rattle.block_rule.specs.NamedBlocks.{AreCollidedEven, NameEvenBlocks};
 ghost use Rattle.block_rule.specs.Rows.{ShowsTile, IsMade, even_row, eight_row};
 ghost use Rattle.block_rule.specs.Shown.{TellsRows};
 
-use crate::blocks::{Blocks, EightRows, collided};
+use crate::blocks::{Blocks, EightRows, Rule, collided};
 use crate::walled::{NoBlocks, Walled, bits_from};
 use bit_tile::Tile;
+
+/// Applies a rule to all blocks of even parity of a tile, in place: each lies in the tile.
+#[inline]
+pub fn make_even<R: Rule>(rule: R, tile: &mut Tile)
+    ensures { (window : ℕ → ℕ → Bool) → ShowsTile window tile.old →
+        HasCells tile.new (made (R.cell rule) 0 window) }
+{
+    for j in 0..32usize {
+        let new = rule.made(Blocks {
+            upper_left: tile.even_even[j],
+            upper_right: tile.odd_even[j],
+            lower_left: tile.even_odd[j],
+            lower_right: tile.odd_odd[j],
+        });
+        tile.even_even[j] = new.upper_left;
+        tile.odd_even[j] = new.upper_right;
+        tile.even_odd[j] = new.lower_left;
+        tile.odd_odd[j] = new.lower_right;
+    }
+}
 
 // The eight rows of even blocks from row `from` on, after the collision.
 #[inline(always)]

@@ -2,14 +2,13 @@
 //! their class, those of the last blocks in the tile to the right. So what becomes of the right corners goes to the next column,
 //! and is carried on from tile to tile.
 
-ghost use Rattle.std.specs.Prelude.{◌≡◌, ℕ, ◌+◌, ◌*◌, ◌<◌, ◌≤◌, Bool, slice_index};
+ghost use Rattle.std.specs.Prelude.{◌≡◌, ℕ, ◌+◌, ◌*◌, ◌<◌, ◌≤◌, ◌⊎◌, Bool, slice_index};
 ghost use Rattle.bit_tile.specs.Tile.{has};
 ghost use Rattle.block_rule.specs.Around.{turned_window};
 ghost use Rattle.block_rule.specs.TileBlocks.{AreGivenBlocks, NamesBlocks, walled_by};
 ghost use Rattle.block_rule.specs.Rows.{odd_row, eight_row, beside_right};
 ghost use Rattle.block_rule.specs.InPlace.{ShowsBegun, NamesRow, TurnsInto, IsRowTurned, IsLeaving, IsInnerSeen, IsSeamSeen, AreRowsSeen, AreNamed, AreCarried, AreEightCarried, AreOthersCarried, AreOthersKept, IsCarried, carried_row, eight_leaving, HaveTurned, AreEndsKept, HasOtherCells};
 
-use crate::apply_rule::write_eight;
 use crate::blocks::{Beside, Blocks, EightRows, collided, next, previous, with_first};
 use crate::blocks_in_tile::SetBlocks;
 use crate::walled::{NoBlocks, OfSet, Walled, bits_from};
@@ -194,6 +193,27 @@ fn turned_on<W: Walled>(
     let eight = turned_eight(walled, from, at, tile, right, carry);
     carry_eight(&eight, at, carry);
     eight.own
+}
+
+// Writes them. All are made before the first is written, so that the compiler makes them as vectors, wherever `out` is.
+#[inline(always)]
+fn write_eight(rows: &EightRows, from: usize, out: &mut Tile)
+    requires { from + 8 < 32 }
+    ensures rows { (k : ℕ) → k < 8 → odd_row out.new (from + k) ≡ eight_row rows.now k }
+    ensures upper_rest { (j : ℕ) → (j < from) ⊎ (from + 8 ≤ j) →
+        (slice_index out.new.odd_odd j ≡ slice_index out.old.odd_odd j) ×
+        (slice_index out.new.even_odd j ≡ slice_index out.old.even_odd j) }
+    ensures lower_rest { (j : ℕ) → (j ≤ from) ⊎ (from + 8 < j) →
+        (slice_index out.new.odd_even j ≡ slice_index out.old.odd_even j) ×
+        (slice_index out.new.even_even j ≡ slice_index out.old.even_even j) }
+{
+    for k in 0..8usize {
+        let j = from + k;
+        out.odd_odd[j] = rows.upper_left[k];
+        out.even_odd[j] = rows.upper_right[k];
+        out.odd_even[j + 1] = rows.lower_left[k];
+        out.even_even[j + 1] = rows.lower_right[k];
+    }
 }
 
 // The rows of blocks 0 to 23 among no walled blocks, in one loop that the compiler makes vectors of.

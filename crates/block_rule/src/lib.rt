@@ -4,7 +4,6 @@
 //! and `TileBlocks::renew` for the walled blocks of a tile.
 #![tactic(auto)]
 
-mod apply_rule;
 mod blocks;
 mod blocks_in_tile;
 mod collide_even;

@@ -1,9 +1,9 @@
-//! The rows of odd blocks of a tile: what is seen of them in the tile and in those round it.
+//! The rows of odd blocks of a tile: what is seen of them in the tile and in those round it, and what a rule makes of one.
 
 ghost use Rattle.std.specs.Prelude.{ℕ, ◌+◌, ◌*◌, ◌<◌, Bool};
-ghost use Rattle.block_rule.specs.Rows.{ShowsTile, ShowsAllRound, ShowsInnerRows, ShowsOddRow};
+ghost use Rattle.block_rule.specs.Rows.{ShowsTile, ShowsAllRound, ShowsInnerRows, ShowsOddRow, IsMadeOdd};
 
-use crate::blocks::{Beside, Blocks};
+use crate::blocks::{Beside, Blocks, Rule, next, previous};
 use bit_tile::Tile;
 use tile_border::Round;
 
@@ -84,4 +84,31 @@ pub fn bottom_row(tile: &Tile, near: &Round) -> OddRow
         lower: near.below_right.even_even[0],
     };
     OddRow { own, left, right }
+}
+
+/// Applies a rule to such a row.
+#[inline]
+pub fn made_odd<R: Rule>(rule: R, row: OddRow) -> Blocks
+    ensures { (window : ℕ → ℕ → Bool) (y : ℕ) → ShowsOddRow window y row →
+        IsMadeOdd (R.cell rule) window y result }
+{
+    let OddRow { own, left, right } = row;
+    let begin = rule.made(Blocks {
+        upper_left: own.upper_left,
+        upper_right: next(own.upper_right, right.upper),
+        lower_left: own.lower_left,
+        lower_right: next(own.lower_right, right.lower),
+    });
+    let end = rule.made(Blocks {
+        upper_left: previous(own.upper_left, left.upper),
+        upper_right: own.upper_right,
+        lower_left: previous(own.lower_left, left.lower),
+        lower_right: own.lower_right,
+    });
+    Blocks {
+        upper_left: begin.upper_left,
+        upper_right: end.upper_right,
+        lower_left: begin.lower_left,
+        lower_right: end.lower_right,
+    }
 }

@@ -10,10 +10,9 @@ ghost use Rattle.block_rule.specs.Shown.{TellsRows};
 ghost use Rattle.block_rule.specs.NamedBlocks.{AreEvenBlocksOf, AreOddBlocksOf};
 ghost use Rattle.block_rule.specs.TileBlocks.{NamesBlocks, AreGivenBlocks, walled_by};
 
-use crate::apply_rule::make_even;
 use crate::blocks::Collision;
 use crate::blocks_in_tile::{OddBlocks, SetBlocks};
-use crate::collide_even::collide_even;
+use crate::collide_even::{collide_even, make_even};
 use crate::count::{Classes, count_class, momentum};
 use crate::walled::{Counted, OfSet};
 use bit_tile::Tile;

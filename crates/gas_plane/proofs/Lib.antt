@@ -9,4 +9,4 @@ pub mod BareTiles
 pub mod Painting
 pub mod Counting
 pub mod Rooms
-pub mod NextRooms
+pub mod TurnedRooms

@@ -15,7 +15,7 @@ use Rattle.gas_plane.proofs.Tilings.{set_covers, tiled_set, tile_place, tile_rea
 pub room_read : (rooms : List AlignedTile) (i : ℕ) (r : AlignedTile) → r ≡ get_or rooms i r → r.tile ≡ get_or (tiles_of rooms) i r.tile
 room_read rooms i r e = ap (λ (r : AlignedTile). r.tile) e ∙ sym (get_or-map (λ (r : AlignedTile). r.tile) rooms i r)
 
-place_in : (rooms : List AlignedTile) (size : Extent) (cells : Cells) (row column w : ℕ) → Cover (tiles_of rooms) size → tiled (tiles_of rooms) size ≡ cells → row < cells.height / 64 → column < cells.width / 64 → w ≡ size.width → row * (w / 64) + column < length rooms
+pub place_in : (rooms : List AlignedTile) (size : Extent) (cells : Cells) (row column w : ℕ) → Cover (tiles_of rooms) size → tiled (tiles_of rooms) size ≡ cells → row < cells.height / 64 → column < cells.width / 64 → w ≡ size.width → row * (w / 64) + column < length rooms
 place_in rooms size cells row column w cover e below across same = grind (arith, subst, length-map, tile_place)
 
 -- the rooms from the first one of a row of tiles on

@@ -2,4 +2,4 @@ pub mod Tiles
 pub mod Planes
 pub mod Lending
 pub mod Counts
-pub mod Beside
+pub mod Turning

@@ -13,7 +13,6 @@ ghost use Rattle.gas_plane.specs.Tiles.{AreTilesInRow};
 
 mod aligned_tile;
 mod around;
-mod beside;
 mod circle;
 mod counts;
 pub mod laws;
@@ -21,10 +20,10 @@ mod paint;
 mod rows;
 mod tile_areas;
 mod totals;
+mod turning;
 
 use aligned_tile::{AlignedTile, copied, rooms};
 pub use around::{Position, TileRows};
-pub use beside::Turner;
 pub use bit_tile::Tile;
 pub use circle::{after, before};
 pub use counts::add_counts;
@@ -33,6 +32,7 @@ pub use rows::word_of;
 use std::alloc::Global;
 use std::marker::Model;
 pub use tile_areas::{is_apart, is_covered, part_of, set_part, tiles_met};
+pub use turning::Turner;
 
 /// A set of cells of a lattice, which is a torus. Contracts see its width, its height and its cells. Only `empty` and `copy`
 /// allocate.

@@ -1,6 +1,6 @@
 //! Worked examples of planes, with values found by hand.
 
-ghost use Rattle.std.specs.Prelude.{◌≡◌, true, ◌||◌};
+ghost use Rattle.std.specs.Prelude.{◌≡◌, true, ◌||◌, ⊤};
 ghost use Rattle.bit_tile.specs.Tile.{has, HasCells};
 ghost use Rattle.gas_terms.specs.Cells.{lies_within, extent};
 
@@ -424,26 +424,40 @@ fn lends_a_tile(rt: HostRuntime) {
     expect_that(&rt, !holds(&plane, 65, 66));
 }
 
-// Adds the cells of the tile to the right.
-#[derive(Drop)]
+// Adds the cells of the tile to the right. Carries on the column.
+#[derive(Clone, Copy)]
 struct AddRight;
 
 impl Turner for AddRight {
-    ghost turns = { λ before t right made after.
-        HasCells made (λ x y. has t x y || has right x y) };
+    type Carried = u32;
 
-    fn turn(&mut self, tile: &mut Tile, right: &Tile) {
+    ghost turns = { λ _ column _ t right made after.
+        HasCells made (λ x y. has t x y || has right x y) × (after ≡ column) };
+
+    ghost can_turn = { λ _ _. ⊤ };
+
+    fn turn(self, column: u32, tile: &mut Tile, right: &Tile, carried: &mut u32) {
         tile.join(right);
+        *carried = column;
     }
 }
 
 #[test]
-fn turns_a_tile_beside_the_next_one(rt: HostRuntime) {
-    let mut plane = plane(&rt, 128, 64, &[(3, 4), (70, 5)]);
-    expect_same(&rt, (plane.across(), plane.down()), (2, 1));
-    expect_that(&rt, plane.size().tiles() == 2);
-    plane.turn_beside(0, &mut AddRight);
-    let cells = [(3, 4, true), (6, 5, true), (70, 5, true), (67, 4, false)];
+fn turns_a_row_of_tiles(rt: HostRuntime) {
+    let mut plane = plane(&rt, 192, 64, &[(3, 4), (70, 5), (140, 7)]);
+    expect_same(&rt, (plane.across(), plane.down()), (3, 1));
+    let mut last = 0;
+    plane.turn_row(0, AddRight, &mut last);
+    expect_same(&rt, last, 2);
+    // The last tile stands beside the first one as it was.
+    let cells = [
+        (3, 4, true),
+        (6, 5, true),
+        (76, 7, true),
+        (131, 4, true),
+        (134, 5, false),
+        (12, 7, false),
+    ];
     expect_cells(&rt, &plane, &cells);
 }
 

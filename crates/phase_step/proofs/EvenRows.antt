@@ -1,15 +1,21 @@
 -- A row of tiles, turned tile by tile at even parity.
-use Rattle.std.proofs.Common.{◌≡◌, ℕ, ◌+◌, ◌*◌, ◌/◌, ◌%◌, ◌<◌, true, sym, ap, ap₂, ◌∙◌, subst, arith, inl, inr}
+use Rattle.std.proofs.Common.{◌≡◌, ℕ, ◌+◌, ◌*◌, ◌/◌, ◌%◌, ◌<◌, ◌≤◌, true, refl, sym, ap, ap₂, ◌∙◌, subst, arith, inl, inr}
 use Rattle.std.proofs.lemmas.Nat.{mul-add-lt, mod-mul-add, div-mul-add}
 use Rattle.std.proofs.lemmas.Bool.{cases_eq}
 use Rattle.bit_tile.specs.Tile as tile
 use Rattle.bit_tile.specs.declared.Tile.{Tile}
-use Rattle.gas_terms.specs.Cells.{Cells, has, extent, is_size, tile_count, tile_rectangle}
+use Rattle.gas_terms.specs.Cells.{Cells, HasSidesOf, has, extent, is_size, tile_count, tile_rectangle}
 use Rattle.gas_plane.specs.Planes.{IsTileFrom, with_tile}
 use Rattle.gas_plane.proofs.Places.{wide, high, cell_below}
-use Rattle.phase_step.specs.OddPhase.{IsRowThere, HasRow, AreEvensTurned, IsEvenRowTurned}
+use Rattle.gas_terms.specs.Gas.{streamed}
+use Rattle.gas_plane.specs.Turning.{AreTilesTurned}
+use Rattle.gas_plane.specs.Turning.AreTilesTurned.{no_tile, one_more}
+use Rattle.phase_step.specs.OddPhase.{TurnsEvenTile, IsRowThere, HasRow, AreEvensTurned, IsEvenRowTurned}
+use Rattle.phase_step.specs.Solid.{all_of}
+use Rattle.phase_step.specs.Turns.{IsTileAfter}
+use Rattle.phase_step.specs.declared.parts.turning.EvenTurner.{EvenTurner}
 use Rattle.phase_step.specs.declared.odd_phase.RowPlace.{RowPlace}
-use Rattle.phase_step.proofs.RowTiles.{tile_here, tile_there, tile_from}
+use Rattle.phase_step.proofs.RowTiles.{tile_here, tile_there, tile_from, at_rectangle}
 
 -- the lattice's tile in this column
 module _ (place : RowPlace) (column : ℕ) (solid cells lattice : Cells) (is : IsRowThere place solid cells lattice) (less : column < lattice.width / 64) where
@@ -68,6 +74,26 @@ module _ (place : RowPlace) (column : ℕ) (solid cells lattice : Cells) (is : I
           rest = λ x y h k not_in.
               other x y h k (λ e f. not_in (omega (arith, e)) f) ∙ so_far.rest x y h k (λ below f. not_in (omega (arith, below)) f);
         }
+
+-- after so many tiles
+module _ (place : RowPlace) (solid old lattice : Cells) (is : IsRowThere place solid old lattice) (sized : is_size (extent old) ≡ true) (low : place.row < old.height / 64) (ready : HasRow place lattice.width old lattice) (first : Tile) (turner : EvenTurner) (walls : all_of turner.known.solids.now ≡ solid) (at : turner.there ≡ place.there * (lattice.width / 64)) where
+  pub evens_turned : (column : ℕ) (now : Cells) → AreTilesTurned (TurnsEvenTile turner) first place.row tt old column tt now → column ≤ lattice.width / 64 → AreEvensTurned place column (streamed 0 lattice solid) old now
+  evens_turned _ _ no_tile h = record { sides = record { wide = refl; high = refl }; made = λ x y h. absurd (omega (arith, h)); rest = λ x y h k other. refl }
+  evens_turned _ now (one_more {column} {mid} so_far turned) h =
+      let was = evens_turned column mid so_far (omega (arith, h)) in
+      let less : column < lattice.width / 64 = omega (arith, h) in
+      let next = streamed 0 lattice solid in
+      let there : ℕ = place.there * (lattice.width / 64) + column in
+      let i : ℕ = place.row * (mid.width / 64) + column in
+      let number : there ≡ turner.there + column = ap (λ n. n + column) (sym at) in
+      let of_before =
+      at_rectangle mid place.row column i turned.before (sized_now place column solid old lattice is less old sized low is.wide next mid i refl was) (low_now place column solid old lattice is less old sized low is.wide next mid i refl was)
+      (less_now place column solid old lattice is less old sized low is.wide next mid i refl was) refl turned.before turned.of_before in
+      let made =
+      turned.related.cells lattice there number is.sized (within_there place column solid old lattice is less) (subst (λ s. HasSidesOf s lattice) (sym walls) is.of_solid)
+      (even_before place column solid old lattice is less old sized low is.wide next mid i refl was turned.before ready of_before) in
+      subst (AreEvensTurned place (column + 1) next old) (sym turned.replaced)
+      (even_next place column solid old lattice is less old sized low is.wide next mid i refl was turned.made (subst (λ s. IsTileAfter 0 lattice s there turned.made) walls made))
 
 -- when all tiles have turned
 pub even_row : (place : RowPlace) (column : ℕ) (next old now : Cells) → is_size (extent next) ≡ true → column ≡ next.width / 64 → AreEvensTurned place column next old now → IsEvenRowTurned place next old now

@@ -7,12 +7,13 @@ use Rattle.bit_tile.specs.declared.Tile.{Tile}
 use Rattle.gas_terms.specs.Cells.{Cells, HasSidesOf, has, extent, is_size, tile_rectangle}
 use Rattle.gas_plane.specs.Planes.{IsTileFrom, with_tile, tile_of}
 use Rattle.gas_plane.proofs.Places.{wide, high, cell_below, tile_below}
-use Rattle.gas_plane.specs.Beside.{IsTurnedBeside}
-use Rattle.block_rule.specs.InPlace.{IsRowTurned, IsInnerSeen, IsSeamSeen, IsCarried, HasOtherCells}
+use Rattle.gas_plane.specs.Turning.{IsColumnTurned}
+use Rattle.block_rule.specs.Around.{turned_window}
+use Rattle.block_rule.specs.InPlace.{TurnsInto, IsRowTurned, IsInnerSeen, IsSeamSeen, IsCarried, HasOtherCells}
 use Rattle.block_rule.specs.declared.blocks.Blocks.{Blocks}
 use Rattle.block_rule.specs.declared.in_place.Carry.{Carry}
-use Rattle.phase_step.specs.OddPhase.{TurnsInner, IsSeamPut, inner_place, IsInnerShown, IsInnerTurned, IsFirstPut, IsEdge}
-use Rattle.phase_step.specs.declared.odd_phase.RowTurner.{RowTurner}
+use Rattle.phase_step.specs.OddPhase.{ShowsWalls, TurnsInner, IsSeamPut, IsFirstPut}
+use Rattle.phase_step.specs.declared.odd_phase.InnerTurner.{InnerTurner}
 use Rattle.phase_step.proofs.MadeCells.{with_here, with_other}
 
 -- a tile of a lattice that is replaced, by its column and row of tiles
@@ -46,6 +47,9 @@ module _ (cells : Cells) (row column i : ℕ) (t : Tile) (sized : is_size (exten
 
   pub tile_from : (old : Tile) → (let r = tile_rectangle cells i in IsTileFrom old cells r.x r.y) → (x y : ℕ) → x < 64 → y < 64 → tile.has old x y ≡ has cells (column * 64 + x) (row * 64 + y)
   tile_from old is x y h k = is.cell x y h k ∙ ap₂ (λ u v. has cells (u + x) (v + y)) is_column is_row
+
+  pub at_rectangle : (old : Tile) → IsTileFrom old cells (column * 64) (row * 64) → (let r = tile_rectangle cells i in IsTileFrom old cells r.x r.y)
+  at_rectangle old is = record { cell = λ x y h k. is.cell x y h k ∙ sym (ap₂ (λ u v. has cells (u + x) (v + y)) is_column is_row) }
 
   -- one whose cells are as before where a test of its columns and rows says no
   pub tile_others : (old : Tile) (P : ℕ → ℕ → Type 0) → (let r = tile_rectangle cells i in IsTileFrom old cells r.x r.y) → ((x y : ℕ) → x < 64 → y < 64 → (P x y → ⊥) → tile.has t x y ≡ tile.has old x y)
@@ -90,22 +94,51 @@ seam_put cells row below column i d words old bottom upper top sized low low_bel
           ∙ first_rest x y h k (λ e f g. other e (inl (let z : y ≡ row * 64 + 63 = omega (arith, f, g) in z)));
     }
 
--- the rows of blocks that lie in a row of tiles
-pub inner_turned : (cells : Cells) (row column i : ℕ) (t r made : Tile) (before after : RowTurner) (edge : ℕ → Bool) → is_size (extent cells) ≡ true → row < cells.height / 64 → column < cells.width / 64 → i ≡ row * (cells.width / 64) + column → (let r = tile_rectangle cells i in IsTileFrom t cells r.x r.y)
-    → ((y : ℕ) → 1 ≤ y → y < 63 → tile.has r 0 y ≡ edge y) → TurnsInner before t r made after → IsInnerTurned (inner_place row column edge) before after cells (with_tile cells i made)
-inner_turned cells row column i t r made before after edge sized low less place of_t of_r turns =
-    let seen : (window : ℕ → ℕ → Bool) → IsInnerShown (inner_place row column edge) cells window → IsInnerSeen window t r =
+-- What stands to the right of a tile in its rows 1 to 62: in the next tile, and for the last one of a row in the first one as it was.
+pub record IsEdge (row column : ℕ) (first : Tile) (cells : Cells) (edge : ℕ → Bool) : Type 0 where
+  pub next : column + 1 < cells.width / 64 → (y : ℕ) → 1 ≤ y → y < 63 → has cells ((column + 1) * 64) (row * 64 + y) ≡ edge y
+  pub last : column + 1 ≡ cells.width / 64 → (y : ℕ) → 1 ≤ y → y < 63 → tile.has first 0 y ≡ edge y
+
+-- a window shows these rows of a tile, and what stands to their right
+pub record IsInnerShown (row column : ℕ) (edge : ℕ → Bool) (cells : Cells) (window : ℕ → ℕ → Bool) : Type 0 where
+  pub tile : (x y : ℕ) → x < 64 → 1 ≤ y → y < 63 → window (x + 1) (y + 1) ≡ has cells (column * 64 + x) (row * 64 + y)
+  pub right : (y : ℕ) → 1 ≤ y → y < 63 → window 65 (y + 1) ≡ edge y
+
+-- they have turned
+pub record IsInnerTurned (turner : InnerTurner) (row column : ℕ) (edge : ℕ → Bool) (before after : Carry) (old new : Cells) : Type 0 where
+  pub sides : HasSidesOf new old
+  pub cells : (window solid after : ℕ → ℕ → Bool) → TurnsInto window solid after → IsInnerShown row column edge old window → ShowsWalls turner.known turner.there column solid → IsCarried before (after 0)
+      → (x y : ℕ) → x < 64 → 1 ≤ y → y < 63 → has new (column * 64 + x) (row * 64 + y) ≡ after x y
+  pub leaving : (window solid : ℕ → ℕ → Bool) → IsInnerShown row column edge old window → ShowsWalls turner.known turner.there column solid → IsCarried after (turned_window 1 window solid 64)
+  pub others : (x y : ℕ) → x < old.width → y < old.height → (x / 64 ≡ column → y / 64 ≡ row → 1 ≤ y % 64 → y % 64 < 63 → ⊥) → has new x y ≡ has old x y
+
+pub inner_turned : (turner : InnerTurner) (cells now : Cells) (row column : ℕ) (first : Tile) (before after : Carry) (edge : ℕ → Bool) → is_size (extent cells) ≡ true → row < cells.height / 64 → column < cells.width / 64 → IsEdge row column first cells edge
+    → IsColumnTurned (TurnsInner turner column before) first row column after cells now → IsInnerTurned turner row column edge before after cells now
+inner_turned turner cells now row column first before after edge sized low less is turned =
+    let i : ℕ = row * (cells.width / 64) + column in
+    let t : Tile = turned.before in
+    let made : Tile = turned.made in
+    let turns = turned.related in
+    let of_right : (y : ℕ) → 1 ≤ y → y < 63 → tile.has turned.right 0 y ≡ edge y =
+    λ y k l.
+    elim (cases_eq (column + 1) (cells.width / 64)) [
+      | inl e ↦ subst (λ r. tile.has r 0 y ≡ edge y) (sym (turned.of_last e)) (is.last e y k l)
+      | inr ne ↦
+          let next : column + 1 < cells.width / 64 = omega (arith, ne, less) in
+          (turned.of_next next).cell 0 y (omega arith) (omega (arith, l)) ∙ (ap (λ u. has cells u (row * 64 + y)) (let z : (column + 1) * 64 + 0 ≡ (column + 1) * 64 = omega arith in z) ∙ is.next next y k l)
+    ] in
+    let seen : (window : ℕ → ℕ → Bool) → IsInnerShown row column edge cells window → IsInnerSeen window t turned.right =
     λ window shown. record {
-      tile = λ x y h k l. shown.tile x y h k l ∙ sym (tile_from cells row column i made sized low less place t of_t x y h (omega (arith, l)));
-      right = λ y k l. shown.right y k l ∙ sym (of_r y k l);
+      tile = λ x y h k l. shown.tile x y h k l ∙ sym (turned.of_before.cell x y h (omega (arith, l)));
+      right = λ y k l. shown.right y k l ∙ sym (of_right y k l);
     } in
-    record {
+    subst (λ n. IsInnerTurned turner row column edge before after cells n) (sym turned.replaced)
+    (record {
       sides = record { wide = refl; high = refl };
-      walled = turns.walled;
-      cells = λ window solid after are shown given carried x y h k l. tile_here cells row column i made sized low less place x y h (omega (arith, l)) ∙ turns.cells window solid after are (seen window shown) given carried x y h k l;
+      cells = λ window solid after are shown given carried x y h k l. tile_here cells row column i made sized low less refl x y h (omega (arith, l)) ∙ turns.cells window solid after are (seen window shown) given carried x y h k l;
       leaving = λ window solid shown. turns.leaving window solid (seen window shown);
       others = λ x y h k other.
-          tile_others cells row column i made sized low less place t (λ _ y. (1 ≤ y) × (y < 63)) of_t
+          tile_others cells row column i made sized low less refl t (λ _ y. (1 ≤ y) × (y < 63)) (at_rectangle cells row column i made sized low less refl t turned.of_before)
           (λ x y h k not_inner.
           elim (cases_eq y 0) [
             | inl e ↦ subst (λ y. tile.has made x y ≡ tile.has t x y) (sym e) (turns.top x h)
@@ -115,7 +148,7 @@ inner_turned cells row column i t r made before after edge sized low less place 
             ]
           ])
           x y h k (λ e f g. other e f g.0 g.1);
-    }
+    })
 
 -- the first column
 pub first_put : (cells : Cells) (row i : ℕ) (old made : Tile) (carry : Carry) → is_size (extent cells) ≡ true → row < cells.height / 64 → i ≡ row * (cells.width / 64) → (let r = tile_rectangle cells i in IsTileFrom old cells r.x r.y)
@@ -131,19 +164,6 @@ first_put cells row i old made carry sized low place of_old put kept =
           (λ x y h k not_first. kept x y h k (λ e l m. not_first (e, (l, omega (arith, m)))))
           x y h k (λ e f g. other (omega (arith, e, g.0)) f g.1.0 g.1.1);
     }
-
--- beside the next tile
-pub beside_turned : (cells now : Cells) (row column i : ℕ) (first : Tile) (before after : RowTurner) (edge : ℕ → Bool) → is_size (extent cells) ≡ true → row < cells.height / 64 → column < cells.width / 64 → (column + 1 ≡ cells.width / 64 → ⊥) → i ≡ row * (cells.width / 64) + column → IsEdge row column first cells edge
-    → IsTurnedBeside (λ t r made after. TurnsInner before t r made after) after cells i now → IsInnerTurned (inner_place row column edge) before after cells now
-beside_turned cells now row column i first before after edge sized low less inside place is turned =
-    let next : column + 1 < cells.width / 64 = omega (arith, less, inside) in
-    let place_next : i + 1 ≡ row * (cells.width / 64) + (column + 1) = omega (arith, place) in
-    subst (λ n. IsInnerTurned (inner_place row column edge) before after cells n) (sym turned.replaced)
-    (inner_turned cells row column i turned.before turned.right turned.made before after edge sized low less place turned.of_before
-    (λ y k l.
-    tile_from cells row (column + 1) (i + 1) turned.made sized low next place_next turned.right turned.of_right 0 y (omega arith) (omega (arith, l))
-    ∙ (ap (λ u. has cells u (row * 64 + y)) (let z : (column + 1) * 64 + 0 ≡ (column + 1) * 64 = omega arith in z) ∙ is.next next y k l))
-    turned.related)
 
 -- the row of blocks that begins in a tile's last row
 pub seam_seen : (cells : Cells) (row below column i d : ℕ) (t r under r_under : Tile) (upper lower : Bool) → is_size (extent cells) ≡ true → row < cells.height / 64 → below < cells.height / 64 → column < cells.width / 64 → i ≡ row * (cells.width / 64) + column → d ≡ below * (cells.width / 64) + column

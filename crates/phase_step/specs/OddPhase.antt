@@ -1,65 +1,55 @@
 -- The phase of parity 1 in place. The blocks that begin in a tile's rows 1 to 61 lie in its row of tiles. Those that begin in its last
 -- row end in the first row of the tiles below.
-use Rattle.std.specs.Prelude.{◌≡◌, ◌⊎◌, ℕ, ◌+◌, ◌-◌, ◌*◌, ◌/◌, ◌%◌, ◌<◌, ◌≤◌, ◌==◌, Bool, true, false, if◌then◌else◌}
+use Rattle.std.specs.Prelude.{◌≡◌, ◌⊎◌, ℕ, ◌+◌, ◌-◌, ◌*◌, ◌/◌, ◌%◌, ◌<◌, ◌≤◌, ◌==◌, Bool, true, false, Option, ⊤, if◌then◌else◌}
 use Rattle.bit_tile.specs.Bit.{bit}
 use Rattle.bit_tile.specs.Tile as tile
 use Rattle.bit_tile.specs.declared.Tile.{Tile}
-use Rattle.gas_terms.specs.Cells.{Cells, HasSidesOf, has, extent, is_size, tile_count}
+use Rattle.gas_terms.specs.Cells.{Cells, HasSidesOf, has, extent, is_size, tile_count, tile_rectangle}
 use Rattle.gas_terms.specs.Gas.{streamed}
-use Rattle.gas_plane.specs.Planes.{IsLattice}
+use Rattle.gas_plane.specs.Planes.{IsLattice, IsTileFrom}
 use Rattle.block_rule.specs.Around.{turned_window}
 use Rattle.block_rule.specs.InPlace.{ShowsBegun, TurnsInto, IsInnerSeen, IsRowTurned, IsCarried}
 use Rattle.block_rule.specs.TileBlocks.{AreGivenBlocks, walled_by}
 use Rattle.block_rule.specs.declared.blocks.Blocks.{Blocks}
+use Rattle.block_rule.specs.declared.blocks_in_tile.SetBlocks.{SetBlocks}
 use Rattle.block_rule.specs.declared.blocks.Beside.{Beside}
 use Rattle.block_rule.specs.declared.in_place.Carry.{Carry}
 use Rattle.phase_step.specs.Parts.{start_of, row_in, made_to, AreMadeTo}
 use Rattle.phase_step.specs.declared.parts.Part.{Part}
 use Rattle.phase_step.specs.declared.odd_phase.RowPlace.{RowPlace}
-use Rattle.phase_step.specs.declared.odd_phase.RowTurner.{RowTurner}
+use Rattle.phase_step.specs.declared.odd_phase.InnerTurner.{InnerTurner}
+use Rattle.phase_step.specs.declared.parts.turning.EvenTurner.{EvenTurner}
+use Rattle.phase_step.specs.declared.steps.known.KnownSolid.{KnownSolid}
+use Rattle.phase_step.specs.Solid.{all_of}
+use Rattle.phase_step.specs.Turns.{IsTileAfter}
+use Rattle.phase_step.specs.SolidBlocks.{is_walled_in}
 
--- what a turner makes of a tile beside the one to its right, and what it carries on
-pub record TurnsInner (before : RowTurner) (t r made : Tile) (after : RowTurner) : Type 0 where
-  pub cells : (window solid after : ℕ → ℕ → Bool) → TurnsInto window solid after → IsInnerSeen window t r → AreGivenBlocks before.walled (walled_by solid) → IsCarried before.carry (after 0)
+-- These walls have the lattice's tile of a column, whose first tile is `there`.
+abbrev pub IsColumnThere : KnownSolid → ℕ → ℕ → Type 0
+IsColumnThere known there column = (column < 64) × (there + column < tile_count (all_of known.solids.now))
+
+-- words that name the walled blocks of that tile name those with a cell of this window
+abbrev pub ShowsWalls : KnownSolid → ℕ → ℕ → (ℕ → ℕ → Bool) → Type 0
+ShowsWalls known there column solid = (given : Option SetBlocks) → AreGivenBlocks given (is_walled_in (all_of known.solids.now) (there + column)) → AreGivenBlocks given (walled_by solid)
+
+-- what becomes of a tile at even parity
+pub record TurnsEvenTile (turner : EvenTurner) (column : ℕ) (before : ⊤) (t right made : Tile) (after : ⊤) : Type 0 where
+  pub cells : (lattice : Cells) (i : ℕ) → i ≡ turner.there + column → is_size (extent lattice) ≡ true → i < tile_count lattice → HasSidesOf (all_of turner.known.solids.now) lattice
+      → (let r = tile_rectangle lattice i in IsTileFrom t lattice r.x r.y) → IsTileAfter 0 lattice (all_of turner.known.solids.now) i made
+
+-- what becomes of a tile's rows 1 to 62 at odd parity, beside the tile to its right, and what is carried on
+pub record TurnsInner (turner : InnerTurner) (column : ℕ) (before : Carry) (t right made : Tile) (after : Carry) : Type 0 where
+  pub cells : (window solid after : ℕ → ℕ → Bool) → TurnsInto window solid after → IsInnerSeen window t right → ShowsWalls turner.known turner.there column solid → IsCarried before (after 0)
       → (x y : ℕ) → x < 64 → 1 ≤ y → y < 63 → tile.has made x y ≡ after x y
-  pub leaving : (window solid : ℕ → ℕ → Bool) → IsInnerSeen window t r → AreGivenBlocks before.walled (walled_by solid) → IsCarried after.carry (turned_window 1 window solid 64)
+  pub leaving : (window solid : ℕ → ℕ → Bool) → IsInnerSeen window t right → ShowsWalls turner.known turner.there column solid → IsCarried after (turned_window 1 window solid 64)
   pub top : (x : ℕ) → x < 64 → tile.has made x 0 ≡ tile.has t x 0
   pub bottom : (x : ℕ) → x < 64 → tile.has made x 63 ≡ tile.has t x 63
-  pub walled : after.walled ≡ before.walled
-
--- a tile by its row and column, and what stands to the right of its rows of cells 1 to 62
-pub record InnerPlace : Type 0 where
-  pub row : ℕ
-  pub column : ℕ
-  pub edge : ℕ → Bool
-
-abbrev pub inner_place : ℕ → ℕ → (ℕ → Bool) → InnerPlace
-inner_place row column edge = record { row = row; column = column; edge = edge }
-
--- a window shows these rows of the tile, and what stands to their right
-pub record IsInnerShown (place : InnerPlace) (cells : Cells) (window : ℕ → ℕ → Bool) : Type 0 where
-  pub tile : (x y : ℕ) → x < 64 → 1 ≤ y → y < 63 → window (x + 1) (y + 1) ≡ has cells (place.column * 64 + x) (place.row * 64 + y)
-  pub right : (y : ℕ) → 1 ≤ y → y < 63 → window 65 (y + 1) ≡ place.edge y
-
--- they have turned
-pub record IsInnerTurned (place : InnerPlace) (before after : RowTurner) (old new : Cells) : Type 0 where
-  pub sides : HasSidesOf new old
-  pub walled : after.walled ≡ before.walled
-  pub cells : (window solid after : ℕ → ℕ → Bool) → TurnsInto window solid after → IsInnerShown place old window → AreGivenBlocks before.walled (walled_by solid) → IsCarried before.carry (after 0)
-      → (x y : ℕ) → x < 64 → 1 ≤ y → y < 63 → has new (place.column * 64 + x) (place.row * 64 + y) ≡ after x y
-  pub leaving : (window solid : ℕ → ℕ → Bool) → IsInnerShown place old window → AreGivenBlocks before.walled (walled_by solid) → IsCarried after.carry (turned_window 1 window solid 64)
-  pub others : (x y : ℕ) → x < old.width → y < old.height → (x / 64 ≡ place.column → y / 64 ≡ place.row → 1 ≤ y % 64 → y % 64 < 63 → ⊥) → has new x y ≡ has old x y
 
 -- What comes from the left was put into the first column of a row of tiles, in its rows of cells 1 to 62.
 pub record IsFirstPut (row : ℕ) (carry : Carry) (old new : Cells) : Type 0 where
   pub sides : HasSidesOf new old
   pub column : (column : ℕ → Bool) → IsCarried carry column → (y : ℕ) → 1 ≤ y → y < 63 → has new 0 (row * 64 + y) ≡ column y
   pub others : (x y : ℕ) → x < old.width → y < old.height → (x ≡ 0 → y / 64 ≡ row → 1 ≤ y % 64 → y % 64 < 63 → ⊥) → has new x y ≡ has old x y
-
--- what stands to the right of a tile in its rows 1 to 62: in the next tile, and for the last one of a row in the first one as it was
-pub record IsEdge (row column : ℕ) (first : Tile) (cells : Cells) (edge : ℕ → Bool) : Type 0 where
-  pub next : column + 1 < cells.width / 64 → (y : ℕ) → 1 ≤ y → y < 63 → has cells ((column + 1) * 64) (row * 64 + y) ≡ edge y
-  pub last : column + 1 ≡ cells.width / 64 → (y : ℕ) → 1 ≤ y → y < 63 → tile.has first 0 y ≡ edge y
 
 -- the row of blocks that begins in a tile's last row was put into the lattice
 pub record IsSeamPut (row below column : ℕ) (words : Blocks) (old new : Cells) : Type 0 where

@@ -1,16 +1,16 @@
 //! The phase of parity 1 in place, row of tiles by row. A tile turns the blocks that begin in it. Those of its rows of cells 1 to
 //! 62 lie in its row of tiles. Those of its last row end in the tiles below, across the seam.
 
-ghost use Rattle.std.specs.Prelude.{◌≡◌, ℕ, ◌+◌, ◌*◌, ◌/◌, ◌<◌, ◌≤◌, Bool};
+ghost use Rattle.std.specs.Prelude.{◌≡◌, ◌+◌, ◌*◌, ◌/◌, ◌<◌, ◌≤◌, Bool};
 ghost use Rattle.gas_terms.specs.Cells.{Cells, HasSidesOf, tile_count};
 ghost use Rattle.gas_terms.specs.Gas.{streamed};
-ghost use Rattle.phase_step.specs.OddPhase.{seam_place, TurnsInner, IsSeamPut, inner_place, IsInnerTurned, IsFirstPut, IsEdge, IsSeamEdge, ShowsSeam, IsRowThere, HasInner, HasSeam, IsInnerRowTurned, IsSeamRowTurned};
+ghost use Rattle.phase_step.specs.OddPhase.{seam_place, IsColumnThere, TurnsInner, IsSeamPut, IsFirstPut, IsSeamEdge, ShowsSeam, IsRowThere, HasInner, HasSeam, IsInnerRowTurned, IsSeamRowTurned};
 ghost use Rattle.phase_step.specs.Solid.{all_of};
 
 use crate::steps::KnownSolid;
 use block_rule::{
-    Beside, Carry, SeamRow, SetBlocks, TurnedRow, put_bottom, put_first_column, put_top, seam_row,
-    turn_inner, turned_seam,
+    Beside, Carry, SeamRow, TurnedRow, put_bottom, put_first_column, put_top, seam_row, turn_inner,
+    turned_seam,
 };
 use gas_plane::{Plane, Tile, Turner};
 
@@ -23,46 +23,24 @@ pub struct RowPlace {
     pub there: u16,
 }
 
-/// Turns the tiles of a row one after another. It has the walled blocks of the next tile, and what the one before carries on.
+/// Turns the blocks that lie in a row of tiles, tile by tile. The tile in column k is tile `there` + k of the lattice.
 #[derive(Clone, Copy)]
-pub struct RowTurner<'a> {
-    pub walled: Option<SetBlocks<'a>>,
-    pub carry: Carry,
+pub struct InnerTurner<'a> {
+    pub known: KnownSolid<'a>,
+    pub there: u16,
 }
 
-impl<'a> Turner for RowTurner<'a> {
-    ghost turns = { λ before t right made after. TurnsInner before t right made after };
+impl<'a> Turner for InnerTurner<'a> {
+    type Carried = Carry;
+
+    ghost turns = { TurnsInner };
+
+    ghost can_turn = { λ t column. IsColumnThere t.known t.there column };
 
     #[inline(always)]
-    fn turn(&mut self, tile: &mut Tile, right: &Tile) {
-        turn_inner(self.walled, tile, right, &mut self.carry);
-    }
-}
-
-// Turns the rows of blocks of a tile that lie in its row of tiles. `first` is the row's first tile as it was before the phase.
-#[inline(always)]
-fn turn_inner_at(
-    particles: &mut Plane,
-    across: u32,
-    row: u32,
-    column: u32,
-    first: &Tile,
-    turner: &mut RowTurner<'_>,
-)
-    requires across { across ≡ particles.old.width / 64 }
-    requires row { row < particles.old.height / 64 }
-    requires column { column < particles.old.width / 64 }
-    ensures sides { HasSidesOf particles.new particles.old }
-    ensures turned { (edge : ℕ → Bool) → IsEdge row column first.now particles.old edge →
-        IsInnerTurned (inner_place row column edge) turner.old turner.new
-        particles.old particles.new }
-{
-    particles.shows_lattice();
-    let i = row * across + column;
-    if column + 1 == across {
-        turner.turn(particles.tile_mut(i), first);
-    } else {
-        particles.turn_beside(i, turner);
+    fn turn(self, column: u32, tile: &mut Tile, right: &Tile, carried: &mut Carry) {
+        let walled = self.known.in_tile(self.there as u32 + column);
+        turn_inner(walled, tile, right, carried);
     }
 }
 
@@ -93,18 +71,10 @@ pub fn turn_inner_row(particles: &mut Plane, known: KnownSolid<'_>, place: RowPl
 {
     let across = particles.across();
     let row = place.row as u32;
-    let there = place.there as u32 * across;
-    let first = *particles.tile(row * across);
-    let mut turner = RowTurner {
-        walled: None,
-        carry: Carry::ZERO,
-    };
-    for column in 0..across {
-        let walled = known.in_tile(there + column);
-        turner.walled = walled;
-        turn_inner_at(particles, across, row, column, &first, &mut turner);
-    }
-    put_first(particles, across, row, &turner.carry);
+    let there = (place.there as u32 * across) as u16;
+    let mut carry = Carry::ZERO;
+    particles.turn_row(row, InnerTurner { known, there }, &mut carry);
+    put_first(particles, across, row, &carry);
 }
 
 // The words of the row of blocks that begins in a tile's last row. `first` is the row's first tile as it was before the phase, and

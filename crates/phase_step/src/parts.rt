@@ -6,17 +6,14 @@ ghost use Rattle.gas_terms.specs.Cells.{tile_count};
 ghost use Rattle.gas_plane.specs.Planes.{IsLattice};
 ghost use Rattle.phase_step.specs.Parts.{start_of, AreOwn, IsPartOfSome, whole_part};
 
-mod acting;
 mod counting;
-mod rows;
 mod running;
 mod strip_sweep;
 mod sweeping;
 mod turning;
 
-pub use acting::act_on;
 use gas_plane::Plane;
-pub use running::{run_part, run_whole};
+pub use running::{act_on, run_part, run_whole};
 pub use strip_sweep::turn_strip;
 
 /// Where the rows of some particles stand in a lattice of `down` rows of tiles. Their own rows of

@@ -10,5 +10,4 @@
 mod runs;
 mod team;
 
-pub use runs::LeastRun;
-pub use team::{MOST_WORKERS, StripTeam};
+pub use team::{LeastRun, MOST_WORKERS, StripTeam};

@@ -1,5 +1,4 @@
-//! Runs: when they are worth strips, and how strips make them. Each strip has a thread for the whole run, and shows its
-//! neighbors the rows of cells at its edges.
+//! Runs by strips. Each strip has a thread for the whole run, and shows its neighbors the rows of cells at its edges.
 
 ghost use Rattle.std.specs.Prelude.{◌≡◌, ℕ, ◌+◌, ◌/◌, ◌<◌, ◌≤◌, All, IsTrue, IfSome, IfNone, length, map};
 ghost use Rattle.std.specs.Vec.{vec_capacity};
@@ -11,7 +10,6 @@ ghost use Rattle.phase_step.specs.WholeRuns.{dynamics};
 ghost use Rattle.phase_strips.specs.Limits.{most_listed, most_workers};
 ghost use Rattle.phase_strips.specs.Courses.{course_of, CanGoOn, Course, HasGoneOn, lattice_at, flow_at, Lists};
 ghost use Rattle.phase_strips.specs.Strips.{AreStrips, AreSomewhere, IsAt, IsOf};
-ghost use Rattle.phase_strips.specs.Worth.{is_worth_strips};
 
 mod edges;
 mod input;
@@ -34,42 +32,6 @@ use watch::{NoWatch, Stopwatch};
 
 /// How many exchanges are listed at once, for all strips. Threads last so long; without exchanges, for a whole run.
 const LISTED: u16 = 256;
-
-/// In so many phases of a run tiles are counted, to see whether it is worth strips. A small lattice isn't, however long the run.
-const COUNTED_PHASES: u16 = 512;
-
-/// The smallest run that is made by strips: how many phases it has, and how many tiles fewer each worker turns in it than one
-/// thread would. With 0 for both, each run is made by strips. And how many milliseconds strips may wait for each other in a run,
-/// however little they have worked.
-#[derive(Clone, Copy)]
-pub struct LeastRun {
-    pub phases: u16,
-    pub tiles: u32,
-    pub patience: u64,
-}
-
-impl LeastRun {
-    /// That of the program. A run by strips starts threads, loads the strips and puts them together, and its threads wait for each
-    /// other in every second phase. So what one thread makes in three or four milliseconds stays on one thread.
-    pub const USUAL: LeastRun = LeastRun {
-        phases: 16,
-        tiles: 131_072,
-        patience: 10,
-    };
-}
-
-/// Whether a run of n phases is no smaller than the least: what a worker turns is compared with the lattice.
-pub fn is_worth_strips(least: LeastRun, size: Size, workers: u8, n: u16) -> bool
-    requires { (0 < workers) × (workers ≤ most_workers) }
-    ensures { result ≡ is_worth_strips least.phases least.tiles size workers n }
-{
-    let across = u32::from(size.width() / 64);
-    let down = u32::from(size.height() / 64);
-    let workers = u32::from(workers);
-    let rows = (down + workers - 1) / workers;
-    let saved = across * (down - rows) * u32::from(n.min(COUNTED_PHASES));
-    least.phases <= n && least.tiles <= saved
-}
 
 /// The strips into which a lattice is cut, one for each worker. They are kept between runs.
 #[derive(Drop)]

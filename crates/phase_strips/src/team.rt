@@ -3,9 +3,11 @@
 ghost use Rattle.std.specs.Prelude.{◌≡◌, ◌<◌, ◌≤◌};
 ghost use Rattle.phase_step.specs.WholeRuns.{dynamics, CanRun, HasRunWhole};
 ghost use Rattle.phase_strips.specs.Limits.{most_workers};
+ghost use Rattle.phase_strips.specs.Worth.{is_worth_strips};
 
-use crate::runs::{LeastRun, Strips, is_worth_strips, run_by, strips_for};
+use crate::runs::{Strips, run_by, strips_for};
 use gas_plane::Plane;
+use gas_terms::Size;
 use phase_step::{
     Action, Counted, Flow, Run, Stepper, account_to_count, parity_at, run_whole,
     with_missing_account,
@@ -17,6 +19,42 @@ use std::time::Clock;
 
 /// How many workers a team has at most.
 pub const MOST_WORKERS: u32 = 16;
+
+// In so many phases of a run tiles are counted, to see whether it is worth strips. A small lattice isn't, however long the run.
+const COUNTED_PHASES: u16 = 512;
+
+/// The smallest run that is made by strips: how many phases it has, and how many tiles fewer each worker turns in it than one
+/// thread would. With 0 for both, each run is made by strips. And how many milliseconds strips may wait for each other in a run,
+/// however little they have worked.
+#[derive(Clone, Copy)]
+pub struct LeastRun {
+    pub phases: u16,
+    pub tiles: u32,
+    pub patience: u64,
+}
+
+impl LeastRun {
+    /// That of the program. A run by strips starts threads, loads the strips and puts them together, and its threads wait for each
+    /// other in every second phase. So what one thread makes in three or four milliseconds stays on one thread.
+    pub const USUAL: LeastRun = LeastRun {
+        phases: 16,
+        tiles: 131_072,
+        patience: 10,
+    };
+}
+
+// Whether a run of n phases is no smaller than the least: what a worker turns is compared with the lattice.
+fn is_worth_strips(least: LeastRun, size: Size, workers: u8, n: u16) -> bool
+    requires { (0 < workers) × (workers ≤ most_workers) }
+    ensures { result ≡ is_worth_strips least.phases least.tiles size workers n }
+{
+    let across = u32::from(size.width() / 64);
+    let down = u32::from(size.height() / 64);
+    let workers = u32::from(workers);
+    let rows = (down + workers - 1) / workers;
+    let saved = across * (down - rows) * u32::from(n.min(COUNTED_PHASES));
+    least.phases <= n && least.tiles <= saved
+}
 
 // How many of the next runs one thread makes, since strips gave up in the last one: 2, then 4, .. and at most 64, until strips
 // work again.

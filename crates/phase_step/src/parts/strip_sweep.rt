@@ -9,7 +9,7 @@ ghost use Rattle.phase_step.specs.Solid.{all_of};
 
 use crate::odd_phase::turn_seam;
 use crate::parts::Part;
-use crate::parts::rows::{place_of, turn_begun, turn_even};
+use crate::parts::turning::{place_of, turn_begun, turn_even};
 use crate::steps::{KnownSolid, Solids};
 use gas_plane::Plane;
 

@@ -13,8 +13,7 @@ ghost use Rattle.phase_step.specs.Solid.{all_of};
 
 use crate::odd_phase::RowPlace;
 use crate::parts::counting::{Counting, count_part, count_row};
-use crate::parts::rows::{turn_begun, turn_even};
-use crate::parts::turning::turn_part;
+use crate::parts::turning::{turn_begun, turn_even, turn_part};
 use crate::parts::whole;
 use crate::steps::KnownSolid;
 use gas_plane::{Plane, after};

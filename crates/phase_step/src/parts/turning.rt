@@ -1,17 +1,152 @@
-//! A phase of a part, in place: its particles turn, and nothing is counted.
+//! A phase of a part, in place: its particles turn, row of tiles by row, and nothing is counted. A row is compiled for no walls and
+//! for some.
 
-ghost use Rattle.std.specs.Prelude.{◌≡◌, ◌+◌, ◌-◌, ◌*◌, ◌/◌, ◌<◌, ◌≤◌};
-ghost use Rattle.gas_terms.specs.Cells.{Cells, tile_count, HasSidesOf};
+ghost use Rattle.std.specs.Prelude.{◌≡◌, ◌<◌, ◌≤◌, ◌+◌, ◌-◌, ◌*◌, ◌/◌};
+ghost use Rattle.gas_terms.specs.Cells.{HasSidesOf, Cells, tile_count};
+ghost use Rattle.phase_step.specs.SolidBlocks.{HasNoBlocks};
+ghost use Rattle.phase_step.specs.OddPhase.{IsColumnThere, IsRowIn, place_at, TurnsBegun, TurnsEven, TurnsEvenTile, AreTurnedTo, AreRowsMadeTo};
+ghost use Rattle.phase_step.specs.Solid.{all_of};
 ghost use Rattle.gas_terms.specs.Gas.{streamed};
 ghost use Rattle.phase_step.specs.Parts.{IsPartOf, IsReady, IsTurned};
-ghost use Rattle.phase_step.specs.OddPhase.{AreTurnedTo, AreRowsMadeTo};
-ghost use Rattle.phase_step.specs.Solid.{all_of};
 
-use crate::odd_phase::turn_seam;
-use crate::parts::Part;
-use crate::parts::rows::{place_of, turn_begun, turn_even};
-use crate::steps::KnownSolid;
-use gas_plane::Plane;
+use crate::odd_phase::{RowPlace, turn_inner_row, turn_seam};
+use crate::parts::{Part, row_there};
+use crate::steps::{KnownSolid, Solids, turn_even_tile};
+use gas_plane::{Plane, Tile, Turner, after};
+
+/// Where a row of tiles of a part stands.
+pub fn place_of(part: Part, row: u32, down: u32) -> RowPlace
+    requires part { (part.first < part.down) × (part.down ≤ 64) × (part.margin ≤ 1) }
+    requires row { (row < down) × (down ≤ 4096) }
+    ensures { result ≡ place_at part down row }
+{
+    RowPlace {
+        row: row as u16,
+        below: after(row, down) as u16,
+        there: row_there(part, row) as u16,
+    }
+}
+
+#[inline(always)]
+fn turn_begun_row(particles: &mut Plane, known: KnownSolid<'_>, place: RowPlace)
+    requires { IsRowIn place (all_of known.solids.now) particles.old }
+    ensures sides { HasSidesOf particles.new particles.old }
+    ensures turned { TurnsBegun place (all_of known.entry.solids.now) particles.old particles.new }
+{
+    particles.shows_lattice();
+    turn_inner_row(particles, known, place);
+    turn_seam(particles, known, place);
+}
+
+// The compiler makes vectors of it only apart from the loops of a run.
+#[inline(never)]
+fn turn_begun_free(particles: &mut Plane, solids: &Solids, place: RowPlace)
+    requires none { HasNoBlocks (all_of solids.now) }
+    requires row { IsRowIn place (all_of solids.now) particles.old }
+    ensures sides { HasSidesOf particles.new particles.old }
+    ensures turned { TurnsBegun place (all_of solids.now) particles.old particles.new }
+{
+    turn_begun_row(particles, KnownSolid { solids, free: true }, place);
+}
+
+#[inline(never)]
+fn turn_begun_among(particles: &mut Plane, solids: &Solids, place: RowPlace)
+    requires { IsRowIn place (all_of solids.now) particles.old }
+    ensures sides { HasSidesOf particles.new particles.old }
+    ensures turned { TurnsBegun place (all_of solids.now) particles.old particles.new }
+{
+    turn_begun_row(
+        particles,
+        KnownSolid {
+            solids,
+            free: false,
+        },
+        place,
+    );
+}
+
+/// The blocks of parity 1 that begin in a row of tiles.
+pub fn turn_begun(particles: &mut Plane, known: KnownSolid<'_>, place: RowPlace)
+    requires { IsRowIn place (all_of known.solids.now) particles.old }
+    ensures sides { HasSidesOf particles.new particles.old }
+    ensures turned { TurnsBegun place (all_of known.entry.solids.now) particles.old particles.new }
+{
+    if known.free {
+        turn_begun_free(particles, known.solids, place);
+    } else {
+        turn_begun_among(particles, known.solids, place);
+    }
+}
+
+/// Turns the tiles of a row at parity 0: the blocks of a tile lie in it. The tile in column k is tile `there` + k of the lattice.
+#[derive(Clone, Copy)]
+pub struct EvenTurner<'a> {
+    pub known: KnownSolid<'a>,
+    pub there: u16,
+}
+
+impl<'a> Turner for EvenTurner<'a> {
+    type Carried = ();
+
+    ghost turns = { TurnsEvenTile };
+
+    ghost can_turn = { λ t column. IsColumnThere t.known t.there column };
+
+    #[inline(always)]
+    fn turn(self, column: u32, tile: &mut Tile, _right: &Tile, _carried: &mut ()) {
+        let walled = self.known.in_tile(self.there as u32 + column);
+        turn_even_tile(walled, tile);
+    }
+}
+
+#[inline(always)]
+fn turn_even_row(particles: &mut Plane, known: KnownSolid<'_>, place: RowPlace)
+    requires { IsRowIn place (all_of known.solids.now) particles.old }
+    ensures sides { HasSidesOf particles.new particles.old }
+    ensures turned { TurnsEven place (all_of known.entry.solids.now) particles.old particles.new }
+{
+    let there = (place.there as u32 * particles.across()) as u16;
+    particles.turn_row(place.row as u32, EvenTurner { known, there }, &mut ());
+}
+
+#[inline(never)]
+fn turn_even_free(particles: &mut Plane, solids: &Solids, place: RowPlace)
+    requires none { HasNoBlocks (all_of solids.now) }
+    requires row { IsRowIn place (all_of solids.now) particles.old }
+    ensures sides { HasSidesOf particles.new particles.old }
+    ensures turned { TurnsEven place (all_of solids.now) particles.old particles.new }
+{
+    turn_even_row(particles, KnownSolid { solids, free: true }, place);
+}
+
+#[inline(never)]
+fn turn_even_among(particles: &mut Plane, solids: &Solids, place: RowPlace)
+    requires { IsRowIn place (all_of solids.now) particles.old }
+    ensures sides { HasSidesOf particles.new particles.old }
+    ensures turned { TurnsEven place (all_of solids.now) particles.old particles.new }
+{
+    turn_even_row(
+        particles,
+        KnownSolid {
+            solids,
+            free: false,
+        },
+        place,
+    );
+}
+
+/// The blocks of parity 0 of a row of tiles.
+pub fn turn_even(particles: &mut Plane, known: KnownSolid<'_>, place: RowPlace)
+    requires { IsRowIn place (all_of known.solids.now) particles.old }
+    ensures sides { HasSidesOf particles.new particles.old }
+    ensures turned { TurnsEven place (all_of known.entry.solids.now) particles.old particles.new }
+{
+    if known.free {
+        turn_even_free(particles, known.solids, place);
+    } else {
+        turn_even_among(particles, known.solids, place);
+    }
+}
 
 // The phase of parity 1 of the blocks that begin in a row of tiles of a part, in place. In a row of
 // the margin only those across the seam reach the part's own rows.

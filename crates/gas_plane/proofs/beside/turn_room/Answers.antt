@@ -1,8 +1,0 @@
-use Rattle.std.proofs.Common.{arith}
-use Rattle.gas_plane.proofs.NextRooms.{room_turned}
-use Rattle.gas_plane.proofs.beside.turn_room.Goals as goal
-
-pub returns : goal.returns
-returns g c =
-    let s = c.split_at_mut-head in
-    room_turned (g.T.Turner.turns c.args.turner.now) c.turn.new.self c.args.rooms.now s.result.0.now s.result.1.now c.args.i _ _ _ s.ensures.value s.ensures.front_len (omega arith) c.turn.ensures
