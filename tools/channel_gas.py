@@ -20,7 +20,8 @@ import struct
 import sys
 
 PARTICLES = {"put": set.union, "erase": set.difference}  # what they make of the particles and a rectangle's cells
-COUNTS = {**dict.fromkeys((*PARTICLES, "wall", "block", "unwall", "drain", "probe"), 4), "source": 5, "row": 2,
+SOLIDS = ("wall", "block", "unwall")
+COUNTS = {**dict.fromkeys((*PARTICLES, *SOLIDS, "drain", "probe"), 4), "source": 5, "row": 2,
           **dict.fromkeys(("step", "back", "read", "entry"), 1),
           **dict.fromkeys(("unport", "tally", "ledger", "save", "quit"), 0)}
 READINGS = ("probe", "tally", "ledger", "read", "entry", "save", "quit")

@@ -2,7 +2,5 @@
 #![tactic(auto)]
 
 mod page;
-mod put;
 
-pub use page::BytePage;
-pub use put::{WriteFault, put_all};
+pub use page::{BytePage, WriteFault, put_all};

@@ -2,15 +2,14 @@
 
 ghost use Rattle.std.specs.Prelude.{◌≡◌, true, false, ◌+ℤ◌, ◌-ℤ◌, pos, IfOk};
 ghost use Rattle.std.specs.Fn.{iterate};
-ghost use Rattle.gas_terms.specs.Cells.{extent, HasSidesOf, IsEvenTorus};
-ghost use Rattle.gas_terms.specs.Accounts.{FitsI64, moved_by};
-ghost use Rattle.gas_terms.specs.Commands.{enact, fits, is_move, is_tick};
+ghost use Rattle.gas_terms.specs.Cells.{extent, IsEvenTorus};
+ghost use Rattle.gas_terms.specs.Accounts.{FitsI64};
+ghost use Rattle.gas_terms.specs.Commands.{fits, is_tick};
 ghost use Rattle.gas_terms.specs.BookedGas.{opened, stepped, stepped_back, book};
 ghost use Rattle.gas_terms.specs.Laboratory.{has_all_ports};
 ghost use Rattle.gas_ledger.specs.Books.{books_of, TickHolds, Affords};
 
 use crate::gas::Gas;
-use crate::port::Port;
 use crate::probes::tally;
 use gas_plane::Plane;
 use gas_terms::{Command, Ledger, Moved, NoMemory, Pair, Sums};
@@ -75,34 +74,9 @@ impl Books {
             Command::Step(n) => self.steps(*n, stepper),
             Command::Back(n) => self.steps_back(*n, stepper),
             edit => {
-                let moved = edited(&mut self.gas, edit);
+                let moved = self.gas.edit(edit);
                 self.ledger = self.ledger.with_moved(moved);
             }
         }
     }
-}
-
-// An edit or a reading of the gas, and what it brings in and takes out.
-fn edited(gas: &mut Gas, command: &Command) -> Moved
-    requires still { is_move command.now ≡ false }
-    requires in_order { fits (extent gas.old.particles) command.now ≡ true }
-    requires place { has_all_ports gas.old command.now ≡ false }
-    requires torus { IsEvenTorus gas.old.particles }
-    ensures gas { gas.new ≡ enact gas.old command.now }
-    ensures moved { result ≡ moved_by gas.old.tick gas.old.particles gas.new.particles }
-{
-    match command {
-        Command::Put(area) => return gas.fill_particles(*area),
-        Command::Erase(area) => return gas.clear_particles(*area),
-        Command::Row(y, row) => return gas.replace_row(*y, row.bytes()),
-        Command::Wall(area) => gas.add_walls(*area),
-        Command::Block(area) => gas.add_obstacles(*area),
-        Command::Unwall(area) => gas.remove_walls_and_obstacles(*area),
-        Command::Source(area, period) => gas.add_port(Port::Source(*area, *period)),
-        Command::Drain(area) => gas.add_port(Port::Drain(*area)),
-        Command::Unport => gas.remove_ports(),
-        // A reading leaves the gas.
-        _ => {}
-    }
-    Moved::ZERO
 }

@@ -1,8 +1,9 @@
 //! The gas: its edits, its runs, and the port action.
 
 ghost use Rattle.std.specs.Prelude.{◌≡◌, true, false, pos, ◌+ℤ◌, ◌-ℤ◌, IfOk};
-ghost use Rattle.gas_terms.specs.Cells.{extent, lies_within, HasSidesOf};
-ghost use Rattle.gas_terms.specs.Commands.{enact, fits, is_tick};
+ghost use Rattle.gas_terms.specs.Cells.{extent, lies_within, HasSidesOf, IsEvenTorus};
+ghost use Rattle.gas_terms.specs.Commands.{enact, fits, is_move, is_tick};
+ghost use Rattle.gas_terms.specs.Laboratory.{has_all_ports};
 ghost use Rattle.gas_terms.specs.declared.command.Command.TheVariants.{Put, Erase, Row, Wall, Block, Unwall, Unport};
 ghost use Rattle.phase_step.specs.Runs.{gas_before, takes_before};
 ghost use Rattle.gas_ledger.specs.PortLists.{adding, has_all};
@@ -12,11 +13,10 @@ ghost use Rattle.phase_step.specs.PortedRuns.{gas_stepped, steps_take, steps_mov
 
 use crate::change::row_change;
 use crate::port::Port;
-use crate::ports::Ports;
-use crate::ports_from::PortsFrom;
+use crate::ports::{Ports, PortsFrom};
 use crate::probes::probe;
 use gas_plane::Plane;
-use gas_terms::{Moved, NoMemory, Rect, Size, Sums, Tick, Took};
+use gas_terms::{Command, Moved, NoMemory, Rect, Size, Sums, Tick, Took};
 use phase_step::{Flow, Run, Solids, Stepper, Still};
 use std::alloc::Global;
 use std::marker::Model;
@@ -217,6 +217,32 @@ impl Gas {
         ensures { self.new ≡ enact self.old Unport }
     {
         self.ports.clear();
+    }
+
+    /// Does an edit, and returns what it brings in and takes out. A reading leaves the gas.
+    #[tactic(auto, using(crate::proofs::Editing::quiet_moves))]
+    pub(crate) fn edit(&mut self, command: &Command) -> Moved
+        requires still { is_move command.now ≡ false }
+        requires in_order { fits (extent self.old.particles) command.now ≡ true }
+        requires place { has_all_ports self.old command.now ≡ false }
+        requires torus { IsEvenTorus self.old.particles }
+        ensures gas { self.new ≡ enact self.old command.now }
+        ensures moved { result ≡ moved_by self.old.tick self.old.particles self.new.particles }
+    {
+        match command {
+            Command::Put(area) => return self.fill_particles(*area),
+            Command::Erase(area) => return self.clear_particles(*area),
+            Command::Row(y, row) => return self.replace_row(*y, row.bytes()),
+            Command::Wall(area) => self.add_walls(*area),
+            Command::Block(area) => self.add_obstacles(*area),
+            Command::Unwall(area) => self.remove_walls_and_obstacles(*area),
+            Command::Source(area, period) => self.add_port(Port::Source(*area, *period)),
+            Command::Drain(area) => self.add_port(Port::Drain(*area)),
+            Command::Unport => self.remove_ports(),
+            // A reading leaves the gas.
+            _ => {}
+        }
+        Moved::ZERO
     }
 
     /// Steps n ticks forward, with the port action at each. Returns what walls and obstacles took, and what the ports brought

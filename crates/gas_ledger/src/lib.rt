@@ -11,7 +11,6 @@ mod change;
 pub mod gas;
 pub mod port;
 pub mod ports;
-mod ports_from;
 mod probes;
 
 pub use apply::apply_ports;

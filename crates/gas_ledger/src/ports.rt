@@ -1,12 +1,12 @@
-//! The drains and sources of a gas, in two lists.
+//! The drains and sources of a gas, in two lists, and as the action of a run.
 
-ghost use Rattle.std.specs.Prelude.{◌≡◌, ◌<◌, ◌%◌, ◌==◌, ◌||◌, ◌↔◌, nat_lt, nat_abs, true, false, length, IsErr, OnOk, OnErr};
-ghost use Rattle.gas_ledger.specs.PortLists.{no_ports, with_port, has_all, has_period, due_areas, IsPortSet};
+ghost use Rattle.std.specs.Prelude.{◌≡◌, ◌<◌, ◌%◌, ◌==◌, ◌||◌, ◌↔◌, nat_lt, nat_abs, pos, ◌+ℤ◌, true, false, length, IsErr, OnOk, OnErr};
+ghost use Rattle.gas_ledger.specs.PortLists.{no_ports, with_port, has_all, has_period, due_areas, left_by, IsPortSet};
 
 use crate::port::{Full, Port, Source};
 use gas_plane::Tile;
-use gas_terms::{MOST_PORTS, Rect};
-use phase_step::{Exchange, PortArray, add_tiles_of, any_area};
+use gas_terms::{MOST_PORTS, Rect, Tick};
+use phase_step::{Action, Exchange, PortArray, add_tiles_of, any_area};
 use std::marker::Model;
 
 /// At most `MOST_PORTS` drains and as many sources, in the order in which they were added.
@@ -160,4 +160,23 @@ fn is_due(tick: i64, period: u16) -> bool
     ensures { result ≡ (nat_abs tick % period == 0) }
 {
     tick.unsigned_abs() % period as u64 == 0
+}
+
+/// What ports do after each phase of a run that begins at the tick.
+#[derive(Drop)]
+pub(crate) struct PortsFrom<'a> {
+    pub(crate) ports: &'a Ports,
+    pub(crate) tick: Tick,
+}
+
+impl Action for PortsFrom<'_> {
+    ghost leaves = { λ p k x y held. left_by p.ports.now (p.tick +ℤ pos k +ℤ pos 1) x y held };
+
+    fn after_phase(&self, k: u16) -> Exchange {
+        self.ports.exchange_at(self.tick.get() + i64::from(k) + 1)
+    }
+
+    fn acts(&self) -> bool {
+        self.ports.any()
+    }
 }

@@ -3,10 +3,7 @@
 //! The program uses `TurnHall` and its seats, doors and notes, on a ticket lock. A hall on a mutex is in `mutex_hall`.
 #![tactic(auto)]
 
-mod entries;
-mod in_turn;
 pub mod receipts;
 mod turn_hall;
 
-pub use entries::entries_of;
-pub use turn_hall::{TurnDoor, TurnHall, TurnNote, TurnSeat};
+pub use turn_hall::{TurnDoor, TurnHall, TurnNote, TurnSeat, entries_of};

@@ -1,21 +1,89 @@
 //! A laboratory under a ticket lock, with its seats, doors and notes. What a seat has seen of the journal begins all that it
 //! sees later.
 
-ghost use Rattle.std.specs.Prelude.{◌≡◌, ◌<◌, ◌≤◌, ◌⊎◌, [], true, All, IfOk, IfErr, vec_len};
+ghost use Rattle.std.specs.Prelude.{◌≡◌, ◌<◌, ◌≤◌, ◌⊎◌, ⊤, [], true, length, All, IfOk, IfErr, vec_len};
 ghost use Rattle.gas_terms.specs.Cells.{extent};
 ghost use Rattle.gas_terms.specs.Commands.{fits};
-ghost use Rattle.gas_terms.specs.Laboratory.{most_entries, IsPrefix, made_by};
-ghost use Rattle.gas_seats.specs.Seats.{AreNumbered, most_hall_seats};
+ghost use Rattle.gas_terms.specs.Laboratory.{most_entries, Applies, IsPrefix, IsSound, made_by};
+ghost use Rattle.gas_lab.specs.Labs.{entry_of};
+ghost use Rattle.gas_lab.specs.Copying.{Copies};
+ghost use Rattle.gas_seats.specs.Seats.{AreNumbered, entries_told, most_hall_seats, most_number};
 ghost use Rattle.gas_seats.specs.TurnSeats.{TurnSeatView, TurnNoteView, entries_made, opening_seat, AsksInTurn, CopiesInTurn};
 
-use crate::entries::entries_of;
-use crate::in_turn::{Asked, CopyAsked, InTurn};
 use gas_lab::{Copied, Door, Lab, Stepper};
-use gas_terms::{Answer, Command, NoMemory, Refusal, Size};
+use gas_ledger::Gas;
+use gas_terms::{Answer, Command, Entry, NoMemory, Refusal, Size};
 use std::alloc::Global;
 use std::marker::Model;
 use std::sync::Wait;
-use ticket_lock::{LockDoor, Note, TicketLock};
+use ticket_lock::rule::Journaled;
+use ticket_lock::{Call, LockDoor, Note, TicketLock};
+
+/// The laboratory that the lock moves from seat to seat. What never changes is the gas that it opened with, and how many
+/// entries its journal may have.
+#[derive(Drop)]
+pub struct InTurn<S: Stepper> {
+    lab: Lab<S>,
+}
+
+impl<S: Stepper> Journaled for InTurn<S> {
+    type Entry = Entry;
+
+    type Fixed = (Gas, u32);
+
+    ghost entries = { λ x. x.lab.journal };
+
+    ghost fixed = { λ x. (x.lab.start, x.lab.cap) };
+
+    ghost by = { λ e. e.seat };
+}
+
+// A seat's command.
+#[derive(Drop)]
+struct Asked {
+    command: Command,
+}
+
+impl<S: Stepper> Call<InTurn<S>> for Asked {
+    type Answer = Result<Answer, Refusal>;
+
+    ghost needs = { λ c by opened. (by ≤ most_number)
+        × (fits (extent opened.0.particles) c.command ≡ true) };
+
+    ghost does = { λ c by x reply y. IsSound x.lab × IsSound y.lab
+        × (length y.lab.journal ≤ most_entries)
+        × Applies x.lab (entry_of by c.command) reply y.lab };
+
+    fn call(self, by: u64, value: &mut InTurn<S>) -> Result<Answer, Refusal> {
+        value.lab.apply(by as u16, self.command)
+    }
+}
+
+// A copy of the gas for a seat.
+#[derive(Drop)]
+struct CopyAsked;
+
+impl<S: Stepper> Call<InTurn<S>> for CopyAsked {
+    type Answer = Result<Copied, NoMemory>;
+
+    ghost needs = { λ _ _ _. ⊤ };
+
+    ghost does = { λ _ _ x copied y. IsSound x.lab × Copies x.lab copied y.lab × (y ≡ x) };
+
+    fn call(self, _by: u64, value: &mut InTurn<S>) -> Result<Copied, NoMemory> {
+        Copied::of(&value.lab)
+    }
+}
+
+/// How many entries of the journal a reply tells of.
+pub fn entries_of(reply: &Result<Answer, Refusal>) -> u32
+    ensures { result ≡ entries_told reply.now }
+{
+    match reply {
+        Ok(Answer::Taken(_)) => 1,
+        _ => 0,
+    }
+}
 
 /// A laboratory whose seats take turns. It can't be closed; a door's `copy_gas` clones its gas.
 ///

@@ -22,7 +22,7 @@ use Rattle.gas_talk.specs.LabTalk.{plain, talk_of_item, talk}
 use Rattle.gas_talk.specs.Lines.{Item, text, lines}
 use Rattle.gas_talk.specs.Scripts.{script, all_plain, asked_by_script, taken_from, made_alone}
 use Rattle.gas_talk.specs.Talk.{no_put, TalkLine}
-use Rattle.gas_text.specs.Texts.{command_text, IsTyped}
+use Rattle.gas_text.specs.Requests.{command_text, IsTyped}
 
 abbrev Typed : Entry → Type 0
 Typed entry = IsTyped entry.command

@@ -23,8 +23,8 @@ use Rattle.gas_text.proofs.Canonical.{digits_of_number}
 use Rattle.gas_text.proofs.CanonicalCommands.{AreSmall, area_small, count_small, row_small, period_small}
 use Rattle.gas_talk.proofs.Cutting.{items_of_line}
 use Rattle.gas_talk.specs.Lines.{text, line_limit, is_newline, line_text, is_good, items_of, lines}
-use Rattle.gas_text.specs.Texts.{area_numbers, parted, command_text, IsTyped}
-use Rattle.gas_text.specs.Verbs.{verb_word}
+use Rattle.gas_text.specs.Requests.{verb_word, area_numbers, command_text, IsTyped}
+use Rattle.gas_text.specs.Words.{parted}
 use Rattle.gas_text.specs.declared.verb.Verb.{Verb}
 use Rattle.gas_text.specs.declared.verb.Verb.TheVariants.{Put, Source, Row, Step, Back, Read, Entry, Unport, Tally, Ledger}
 

@@ -10,7 +10,7 @@ use Rattle.gas_talk.specs.Ends.{until_end}
 use Rattle.gas_talk.specs.Lines.{Item, text, lines}
 use Rattle.gas_talk.specs.Talk.{no_put, TalkLine, replied}
 use Rattle.gas_talk.specs.LabTalk.{Outcome, plain}
-use Rattle.gas_text.specs.Texts.{command_text}
+use Rattle.gas_text.specs.Requests.{command_text}
 
 -- the texts of a journal's commands, each a line
 abbrev pub script : List Entry → List ℕ

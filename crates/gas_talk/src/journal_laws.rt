@@ -4,7 +4,7 @@ ghost use Rattle.std.specs.Prelude.{◌≡◌, ℕ, ◌≤◌, true, length};
 ghost use Rattle.std.specs.List.{All};
 ghost use Rattle.gas_terms.specs.Cells.{extent, is_size};
 ghost use Rattle.gas_terms.specs.Laboratory.{Laboratory, opening, IsSound};
-ghost use Rattle.gas_text.specs.Texts.{IsTyped};
+ghost use Rattle.gas_text.specs.Requests.{IsTyped};
 ghost use Rattle.gas_talk.specs.LabTalk.{talk};
 ghost use Rattle.gas_talk.specs.Scripts.{asked_by_script, taken_from, made_alone};
 

@@ -9,9 +9,6 @@ mod alone;
 mod end;
 pub mod journal_laws;
 mod reader;
-mod reads;
-mod replying;
-mod send;
 pub mod session;
 pub mod session_laws;
 
@@ -19,4 +16,4 @@ pub use alone::{Alone, serve_alone};
 pub use end::SessionEnd;
 pub use gas_lab::{Copied, Door};
 pub use gas_text::{Reply, ReplyPage, Request, read_command, reply_text};
-pub use reads::ReadCount;
+pub use reader::ReadCount;

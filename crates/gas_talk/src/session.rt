@@ -1,21 +1,24 @@
 //! A session: reads lines, asks each of the door, and writes each reply.
 
-ghost use Rattle.std.specs.Prelude.{◌≡◌, ◌≢◌, IfSome, ℕ, List, ◌+◌, ◌++◌};
+ghost use Rattle.std.specs.Prelude.{◌≡◌, ◌≢◌, false, IfSome, Result, ℕ, List, ◌+◌, ◌++◌};
 ghost use Rattle.std.specs.Io.KnownBytes.{Appends};
-ghost use Rattle.gas_text.specs.Texts.{reply_line};
-ghost use Rattle.gas_talk.specs.Ends.{Place, place, IsSession};
-ghost use Rattle.gas_talk.specs.Talk.{calls};
+ghost use Rattle.std.specs.declared.alloc.AllocError.{AllocError as NoMemory};
+ghost use Rattle.gas_lab.specs.declared.door.Copied.{Copied};
+ghost use Rattle.gas_snapshot.specs.Shelved.{Gains};
+ghost use Rattle.gas_text.specs.Requests.{request_of};
+ghost use Rattle.gas_text.specs.Texts.{is_bye, reply_line};
+ghost use Rattle.gas_talk.specs.Lines.{text};
+ghost use Rattle.gas_talk.specs.Ends.{Place, place, is_quit, bytes_put, failed_by, failures_after, IsSession};
+ghost use Rattle.gas_talk.specs.Talk.{Put, Takes, Saves, calls};
 ghost use Rattle.gas_talk.specs.Private.{WritesPart, EndsWith, Progress, AnswersLines};
 
 use crate::end::SessionEnd;
-use crate::reader::{Found, LineReader, ReadFault};
-use crate::reads::{ReadCount, SessionReads};
-use crate::replying::reply_of;
-use crate::send::send;
-use gas_lab::Door;
-use gas_snapshot::Shelf;
-use gas_terms::Refusal;
-use gas_text::{Reply, ReplyPage, reply_text};
+use crate::reader::{Found, LineReader, ReadCount, ReadFault, SessionReads};
+use byte_page::put_all;
+use gas_lab::{Copied, Door};
+use gas_snapshot::{Shelf, encode};
+use gas_terms::{NoMemory, Refusal};
+use gas_text::{Reply, ReplyPage, Request, read_command, reply_text};
 use std::alloc::Global;
 use std::io::{Read, Write};
 use std::marker::Brand;
@@ -23,6 +26,58 @@ use std::sync::ledger::{Blank, Ledger};
 
 // How many reads a session makes at most.
 const READS: u32 = 1 << 24;
+
+// Copies, encodes, and puts the snapshot on the shelf.
+fn save<D: Door, K: Shelf>(alloc: Global, door: &mut D, shelf: &mut K) -> Reply
+    ensures saved { (copied : Result Copied NoMemory) × (put : Put)
+        × D.copies door.old copied door.new × Saves copied result put
+        × (K.failures shelf.new ≡ failures_after (K.failures shelf.old) (failed_by put))
+        × Gains (K.shelved shelf.old) (K.shelved shelf.new) (bytes_put put) }
+    ensures size { D.size_of door.new ≡ D.size_of door.old }
+    ensures goes_on { is_bye result ≡ false }
+{
+    let copied = match door.copy_gas() {
+        Ok(copied) => copied,
+        Err(_) => return Reply::Refused(Refusal::Memory),
+    };
+    let bytes = match encode(alloc, &copied.gas) {
+        Ok(bytes) => bytes,
+        Err(_) => return Reply::Refused(Refusal::Memory),
+    };
+    match shelf.put(bytes.as_slice()) {
+        Ok(()) => Reply::Saved(copied.entries, bytes.len() as u64),
+        Err(_) => Reply::Refused(Refusal::Save),
+    }
+}
+
+// Does what the line asks, and returns the reply: `Bye` exactly if the line asks to quit.
+fn reply_of<D: Door, K: Shelf>(alloc: Global, line: &str, door: &mut D, shelf: &mut K) -> Reply
+    ensures taken { (put : Put) × Takes (calls D.size_of D.asks D.copies) door.old
+        (record { item = text line.now; reply = result; put = put }) door.new
+        × (K.failures shelf.new ≡ failures_after (K.failures shelf.old) (failed_by put))
+        × Gains (K.shelved shelf.old) (K.shelved shelf.new) (bytes_put put) }
+    ensures quit { is_bye result ≡ is_quit (request_of (D.size_of door.old) line.now) }
+{
+    match read_command(alloc, line, door.size()) {
+        Ok(Request::Ask(command)) => match door.ask(command) {
+            Ok(answer) => Reply::Answered(answer),
+            Err(refusal) => Reply::Refused(refusal),
+        },
+        Ok(Request::Save) => save(alloc, door, shelf),
+        Ok(Request::Quit) => Reply::Bye,
+        Err(refusal) => Reply::Refused(refusal),
+    }
+}
+
+// Writes the text and flushes. If that fails, a part of the text is written.
+fn send<W: Write>(writer: &mut W, text: &[u8]) -> bool
+    ensures { WritesPart (W.contents writer.old) (W.contents writer.new) text.now result }
+{
+    match put_all(writer, text) {
+        Ok(()) => writer.flush().is_ok(),
+        Err(_) => false,
+    }
+}
 
 // Writes the line of a reply and flushes. If that fails, a part of the line is written.
 fn send_reply<W: Write>(writer: &mut W, reply: &Reply, page: &mut ReplyPage) -> bool

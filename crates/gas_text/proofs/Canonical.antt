@@ -10,9 +10,8 @@ use Rattle.std.specs.Fmt.{decimal}
 use Rattle.std.specs.List.{All, AllByRecursion, filter, list_all, slice_split}
 use Rattle.std.specs.Str.{all_ascii_digits}
 use Rattle.gas_text.proofs.LineWords.{number_is}
-use Rattle.gas_text.specs.Texts.{parted}
-use Rattle.gas_text.specs.Verbs.{verb_word, verb_of}
-use Rattle.gas_text.specs.Words.{is_space, is_nonempty, words, value_after, value_of, number_of}
+use Rattle.gas_text.specs.Requests.{verb_word, verb_of}
+use Rattle.gas_text.specs.Words.{is_space, is_nonempty, words, parted, value_after, value_of, number_of}
 use Rattle.gas_text.specs.declared.verb.Verb.{Verb}
 
 -- whether some bytes are a word: there are some, and none is a space

@@ -12,10 +12,8 @@ use Rattle.gas_terms.specs.Commands.{fits, is_step_count, is_period}
 use Rattle.gas_terms.specs.declared.command.Command.{Command}
 use Rattle.gas_terms.specs.declared.command.Command.TheVariants as commands
 use Rattle.gas_text.proofs.Canonical.{is_word, some_plain, words_again, number_again, number_word, verb_is_word, verb_again}
-use Rattle.gas_text.specs.Requests.{request_of, verb_request}
-use Rattle.gas_text.specs.Texts.{area_numbers, parted, command_text, IsTyped}
-use Rattle.gas_text.specs.Verbs.{verb_word, verb_of, number_count, word_count}
-use Rattle.gas_text.specs.Words.{is_space, words, numbers_of}
+use Rattle.gas_text.specs.Requests.{verb_word, verb_of, number_count, word_count, request_of, verb_request, area_numbers, command_text, IsTyped}
+use Rattle.gas_text.specs.Words.{is_space, words, numbers_of, parted}
 use Rattle.gas_text.specs.declared.request.Request.TheVariants.{Ask}
 use Rattle.gas_text.specs.declared.verb.Verb.{Verb}
 use Rattle.gas_text.specs.declared.verb.Verb.TheVariants.{Put, Erase, Wall, Block, Unwall, Drain, Probe, Source, Row, Step, Back, Read, Entry, Unport, Tally, Ledger}

@@ -1,7 +1,7 @@
 -- Words parted by spaces.
 use Rattle.std.proofs.Common.{◌≡◌, ℕ, List, [], ◌∷◌, ◌++◌, sym, ap, append_assoc, arith}
 use Rattle.std.proofs.lemmas.List.{append-nil}
-use Rattle.gas_text.specs.Texts.{parted, spaced}
+use Rattle.gas_text.specs.Words.{parted, spaced}
 
 pub parted_spaced : (word : List ℕ) (words : List (List ℕ)) → parted (word ∷ words) ≡ word ++ spaced words
 parted_spaced word [] = sym (append-nil word)

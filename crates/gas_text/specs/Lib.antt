@@ -1,4 +1,3 @@
 pub mod Requests
 pub mod Texts
-pub mod Verbs
 pub mod Words

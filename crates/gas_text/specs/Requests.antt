@@ -1,7 +1,10 @@
--- What a line asks, or the first of its faults.
-use Rattle.std.specs.Prelude.{◌≡◌, true, ℕ, ◌/◌, ◌==◌, nat_lt, ◌⊎◌, Bool, if◌then◌else◌, List, [], ◌∷◌, length, take, drop, Result, Ok, Err}
+-- Requests: their words, what a line asks or the first of its faults, and the text of a command.
+use Rattle.std.specs.Prelude.{◌≡◌, true, ℕ, ◌/◌, ◌^◌, ◌<◌, ◌==◌, nat_lt, ◌⊎◌, Bool, if◌then◌else◌, List, [], ◌∷◌, ◌++◌, length, map, take, drop, codes, Option, Result, Ok, Err}
+use Rattle.std.specs.Fmt.{decimal}
+use Rattle.std.specs.List.{find}
 use Rattle.std.specs.Option.{ok_or}
-use Rattle.hex.specs.Hex.{decode_sized}
+use Rattle.std.specs.Str.{bytes_eq}
+use Rattle.hex.specs.Hex.{decode_sized, encode_lower, IsBytes}
 use Rattle.hex.specs.declared.error.FromHexError.{FromHexError}
 use Rattle.gas_terms.specs.Cells.{Extent, Rectangle, lies_within}
 use Rattle.gas_terms.specs.Commands.{is_step_count, is_period, fits}
@@ -13,8 +16,66 @@ use Rattle.gas_text.specs.declared.request.Request.{Request}
 use Rattle.gas_text.specs.declared.request.Request.TheVariants as requests
 use Rattle.gas_text.specs.declared.verb.Verb.{Verb}
 use Rattle.gas_text.specs.declared.verb.Verb.TheVariants.{Put, Erase, Wall, Block, Unwall, Drain, Probe, Source, Row, Step, Back, Read, Entry, Unport, Tally, Ledger, Save, Quit}
-use Rattle.gas_text.specs.Words.{words, numbers_of}
-use Rattle.gas_text.specs.Verbs.{verb_of, number_count, word_count}
+use Rattle.gas_text.specs.Words.{words, numbers_of, parted}
+
+-- The words that name what is asked, and how many words follow each.
+abbrev pub verb_word : Verb → List ℕ
+verb_word Put = codes "put"
+verb_word Erase = codes "erase"
+verb_word Wall = codes "wall"
+verb_word Block = codes "block"
+verb_word Unwall = codes "unwall"
+verb_word Drain = codes "drain"
+verb_word Probe = codes "probe"
+verb_word Source = codes "source"
+verb_word Row = codes "row"
+verb_word Step = codes "step"
+verb_word Back = codes "back"
+verb_word Read = codes "read"
+verb_word Entry = codes "entry"
+verb_word Unport = codes "unport"
+verb_word Tally = codes "tally"
+verb_word Ledger = codes "ledger"
+verb_word Save = codes "save"
+verb_word Quit = codes "quit"
+
+abbrev pub verbs : List Verb
+verbs =
+    Put ∷ Erase ∷ Wall ∷ Block ∷ Unwall ∷ Drain ∷ Probe ∷ Source ∷ Row ∷ Step ∷ Back ∷ Read ∷ Entry
+    ∷ Unport ∷ Tally
+    ∷ Ledger ∷ Save ∷ Quit ∷ []
+
+-- the verb whose word it is
+unfoldable pub verb_of : List ℕ → Option Verb
+verb_of word = find (λ verb. bytes_eq word (verb_word verb)) verbs
+
+-- how many numbers follow it
+abbrev pub number_count : Verb → ℕ
+number_count Put = 4
+number_count Erase = 4
+number_count Wall = 4
+number_count Block = 4
+number_count Unwall = 4
+number_count Drain = 4
+number_count Probe = 4
+number_count Source = 5
+number_count Row = 1
+number_count Step = 1
+number_count Back = 1
+number_count Read = 1
+number_count Entry = 1
+number_count Unport = 0
+number_count Tally = 0
+number_count Ledger = 0
+number_count Save = 0
+number_count Quit = 0
+
+-- how many words follow it: the numbers, and the digits of a row
+abbrev pub word_count : Verb → ℕ
+word_count Row = 2
+word_count verb = number_count verb
+
+-- What a line asks, or the first of its faults.
 
 -- the next check, unless a fault was found
 infixl 10 ◌>>=◌
@@ -113,3 +174,42 @@ abbrev pub IsAskable : Extent → Request → Type 0
 IsAskable size (requests.Ask command) = fits size command ≡ true
 IsAskable size requests.Save = Unit {0}
 IsAskable size requests.Quit = Unit {0}
+
+-- The text of a command.
+
+abbrev pub area_numbers : Rectangle → List ℕ
+area_numbers r = r.x ∷ r.y ∷ r.w ∷ r.h ∷ []
+
+-- the words of a command on a rectangle
+abbrev pub area_words : Verb → Rectangle → List (List ℕ)
+area_words verb r = verb_word verb ∷ map decimal (area_numbers r)
+
+-- the words of a command: its verb, its numbers, and a row's digits
+abbrev pub command_words : Command → List (List ℕ)
+command_words (commands.Put r) = area_words Put r
+command_words (commands.Erase r) = area_words Erase r
+command_words (commands.Wall r) = area_words Wall r
+command_words (commands.Block r) = area_words Block r
+command_words (commands.Unwall r) = area_words Unwall r
+command_words (commands.Row y bits) = verb_word Row ∷ decimal y ∷ encode_lower bits ∷ []
+command_words (commands.Source r period) =
+    verb_word Source ∷ map decimal (area_numbers r ++ period ∷ [])
+command_words (commands.Drain r) = area_words Drain r
+command_words commands.Unport = verb_word Unport ∷ []
+command_words (commands.Step n) = verb_word Step ∷ decimal n ∷ []
+command_words (commands.Back n) = verb_word Back ∷ decimal n ∷ []
+command_words (commands.Probe r) = area_words Probe r
+command_words commands.Tally = verb_word Tally ∷ []
+command_words commands.Ledger = verb_word Ledger ∷ []
+command_words (commands.Read y) = verb_word Read ∷ decimal y ∷ []
+command_words (commands.Entry k) = verb_word Entry ∷ decimal k ∷ []
+
+-- the canonical text of a command
+abbrev pub command_text : Command → List ℕ
+command_text command = parted (command_words command)
+
+-- what the type of a command keeps
+abbrev pub IsTyped : Command → Type 0
+IsTyped (commands.Row y bits) = IsBytes bits
+IsTyped (commands.Entry k) = k < 2 ^ 32
+IsTyped command = Unit {0}

@@ -1,6 +1,6 @@
--- The words of a line, and the numbers among them.
+-- The words of a line, the numbers among them, and lines of words.
 use Rattle.std.specs.Prelude.{ℕ, ◌+◌, ◌-◌, ◌*◌, ◌^◌, ◌==◌, nat_lt, nat_le, Bool, ◌&&◌, if◌then◌else◌, List, [], ◌∷◌, length, Option, Some, None}
-use Rattle.std.specs.List.{slice_split, filter}
+use Rattle.std.specs.List.{slice_split, filter, flat_map, join_with_byte}
 use Rattle.std.specs.Option.{option_map}
 use Rattle.std.specs.Str.{all_ascii_digits}
 
@@ -13,6 +13,14 @@ is_nonempty word = nat_lt 0 (length word)
 -- the longest runs of bytes other than a space
 unfoldable pub words : List ℕ → List (List ℕ)
 words line = filter is_nonempty (slice_split is_space line)
+
+-- words parted by one space
+abbrev pub parted : List (List ℕ) → List ℕ
+parted words = join_with_byte 32 words
+
+-- words, a space before each
+abbrev pub spaced : List (List ℕ) → List ℕ
+spaced words = flat_map (λ word. 32 ∷ word) words
 
 -- words, with one in front unless it is empty
 abbrev pub with_word : List ℕ → List (List ℕ) → List (List ℕ)

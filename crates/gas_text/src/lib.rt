@@ -3,7 +3,6 @@
 //! The program calls both.
 #![tactic(auto)]
 
-mod number;
 pub mod page;
 pub mod reading;
 pub mod reading_laws;

@@ -8,13 +8,11 @@ ghost use Rattle.gas_terms.specs.Commands.{is_step_count, is_period};
 ghost use Rattle.gas_terms.specs.declared.refusal.Refusal.TheVariants.{Memory};
 ghost use Rattle.gas_text.specs.declared.verb.Verb.TheVariants.{Row, Source};
 ghost use Rattle.gas_text.specs.Words.{words};
-ghost use Rattle.gas_text.specs.Verbs.{number_count};
-ghost use Rattle.gas_text.specs.Requests.{area, row_number, step_count, period, spelled, verb_request, request_of, Reads, IsAskable};
+ghost use Rattle.gas_text.specs.Requests.{number_count, area, row_number, step_count, period, spelled, verb_request, request_of, Reads, IsAskable};
 
-use crate::number::read_numbers;
 use crate::request::Request;
 use crate::verb::Verb;
-use crate::word::{count_words, next_word};
+use crate::word::{count_words, next_word, read_numbers};
 use gas_terms::{Command, MOST_PERIOD, MOST_ROW_BYTES, MOST_STEPS, Rect, Refusal, RowBits, Size};
 use hex::decode_to_slice;
 use std::alloc::Global;

@@ -5,8 +5,7 @@ ghost use Rattle.gas_terms.specs.Cells.{Extent, is_size};
 ghost use Rattle.gas_terms.specs.Commands.{fits};
 ghost use Rattle.gas_terms.specs.declared.command.Command.{Command};
 ghost use Rattle.gas_text.specs.declared.request.Request.TheVariants.{Ask};
-ghost use Rattle.gas_text.specs.Requests.{request_of};
-ghost use Rattle.gas_text.specs.Texts.{command_text, IsTyped};
+ghost use Rattle.gas_text.specs.Requests.{request_of, command_text, IsTyped};
 
 /// The text of a command in an entry is read as that command.
 pub fn commands_are_read_again()

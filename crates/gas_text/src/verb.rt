@@ -1,9 +1,18 @@
-//! The verbs of lines, and how many words follow each.
+//! The verbs of lines, how many words follow each, and the text of a command.
 
-ghost use Rattle.std.specs.Prelude.{◌≡◌, length};
+ghost use Rattle.std.specs.Prelude.{◌≡◌, ◌≤◌, ◌+◌, ◌*◌, [], ◌∷◌, ◌++◌, length, map};
+ghost use Rattle.std.specs.Fmt.{decimal};
 ghost use Rattle.std.specs.List.{find};
 ghost use Rattle.std.specs.Str.{bytes_eq};
-ghost use Rattle.gas_text.specs.Verbs.{verb_word, verbs, verb_of, number_count, word_count};
+ghost use Rattle.hex.specs.Hex.{encode_lower};
+ghost use Rattle.byte_page.specs.Pages.{page_limit};
+ghost use Rattle.gas_text.specs.Words.{parted, spaced};
+ghost use Rattle.gas_text.specs.Requests.{verb_word, verbs, verb_of, number_count, word_count, area_words, command_text};
+
+use crate::word::{push_number, push_numbers};
+use byte_page::BytePage;
+use gas_terms::{Command, MOST_ROW_BYTES, Rect, RowBits};
+use hex::encode_to_slice;
 
 /// The first word of a line, which names what is asked.
 #[derive(Clone, Copy, Debug)]
@@ -88,7 +97,7 @@ impl Verb {
     }
 
     /// The verb whose word it is.
-    #[tactic(auto, unfolding(crate::specs::Verbs::verb_of))]
+    #[tactic(auto, unfolding(crate::specs::Requests::verb_of))]
     pub fn named(word: &[u8]) -> Option<Verb>
         ensures { result ≡ verb_of word.now }
     {
@@ -121,5 +130,70 @@ impl Verb {
             Verb::Row => 2,
             other => other.number_count(),
         }
+    }
+}
+
+/// Writes a space, and a row's digits in hex, in lower case.
+pub fn push_row(page: &mut BytePage, bits: &RowBits)
+    requires { length page.old + 1025 ≤ page_limit }
+    ensures text { page.new ≡ page.old ++ spaced (encode_lower bits.now ∷ []) }
+    ensures short { length page.new ≤ length page.old + 1025 }
+{
+    let bytes = bits.bytes();
+    let mut digits = [0; 2 * MOST_ROW_BYTES];
+    let digits = &mut digits[..2 * bytes.len()];
+    encode_to_slice(bytes, digits).unwrap();
+    page.push(b" ");
+    page.push(digits);
+}
+
+// A verb, and its numbers.
+fn push_verb(page: &mut BytePage, verb: Verb, numbers: &[u32])
+    requires { length page.old + 21 * length numbers.now + 10 ≤ page_limit }
+    ensures text { page.new ≡ page.old ++ parted (verb_word verb ∷ map decimal numbers.now) }
+    ensures short { length page.new ≤ length page.old + 21 * length numbers.now + 10 }
+{
+    page.push(verb.word());
+    push_numbers(page, numbers);
+}
+
+fn push_area(page: &mut BytePage, verb: Verb, area: Rect)
+    requires { length page.old + 100 ≤ page_limit }
+    ensures text { page.new ≡ page.old ++ parted (area_words verb area) }
+    ensures short { length page.new ≤ length page.old + 100 }
+{
+    let numbers = [area.x(), area.y(), area.w(), area.h()];
+    push_verb(page, verb, &numbers.map(u32::from));
+}
+
+/// Writes the canonical text of a command.
+pub fn push_command(page: &mut BytePage, command: &Command)
+    requires { length page.old + 1100 ≤ page_limit }
+    ensures text { page.new ≡ page.old ++ command_text command.now }
+    ensures short { length page.new ≤ length page.old + 1100 }
+{
+    match command {
+        Command::Put(area) => push_area(page, Verb::Put, *area),
+        Command::Erase(area) => push_area(page, Verb::Erase, *area),
+        Command::Wall(area) => push_area(page, Verb::Wall, *area),
+        Command::Block(area) => push_area(page, Verb::Block, *area),
+        Command::Unwall(area) => push_area(page, Verb::Unwall, *area),
+        Command::Row(y, bits) => {
+            push_verb(page, Verb::Row, &[*y as u32]);
+            push_row(page, bits);
+        }
+        Command::Source(area, period) => {
+            push_area(page, Verb::Source, *area);
+            push_number(page, *period as u64);
+        }
+        Command::Drain(area) => push_area(page, Verb::Drain, *area),
+        Command::Unport => push_verb(page, Verb::Unport, &[]),
+        Command::Step(n) => push_verb(page, Verb::Step, &[*n as u32]),
+        Command::Back(n) => push_verb(page, Verb::Back, &[*n as u32]),
+        Command::Probe(area) => push_area(page, Verb::Probe, *area),
+        Command::Tally => push_verb(page, Verb::Tally, &[]),
+        Command::Ledger => push_verb(page, Verb::Ledger, &[]),
+        Command::Read(y) => push_verb(page, Verb::Read, &[*y as u32]),
+        Command::Entry(k) => push_verb(page, Verb::Entry, &[*k]),
     }
 }

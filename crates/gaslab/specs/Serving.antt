@@ -6,7 +6,7 @@ use Rattle.gas_terms.specs.Gas.{Gas}
 use Rattle.gas_seats.specs.TurnSeats.{TurnSeatView, made_in_all}
 use Rattle.gas_hall.specs.Busy.{busy_seats}
 use Rattle.gas_hall.specs.Served.{AreSeats}
-use Rattle.gas_text.specs.Texts.{parted}
+use Rattle.gas_text.specs.Words.{parted}
 use Rattle.gas_run.specs.declared.setup.Setup.{Setup}
 
 -- what is said at the end: how many seats were served and how many were not, and the entries that all made

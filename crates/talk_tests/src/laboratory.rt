@@ -1,7 +1,8 @@
 //! A laboratory that is called directly, with allocations that fail one by one: a change is done whole or not at all.
 
+use crate::commands::{Word, parts_of};
 use crate::expected::{expect_same, expect_that};
-use crate::fixtures::{CAP, Word, lab, opened, parts_of};
+use crate::fixtures::{CAP, lab, opened};
 use gas_lab::{Gas, Lab, Serial};
 use gas_ledger::Source;
 use gas_plane::Plane;

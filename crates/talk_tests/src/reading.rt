@@ -1,9 +1,9 @@
 //! Lines and their requests, or the first of their faults.
 
 use crate::expected::{expect_same, expect_that};
-use crate::fixtures::{Word, parts_of, size};
+use crate::fixtures::size;
 use gas_talk::{Request, read_command};
-use gas_terms::{Command, Rect, Refusal, Size};
+use gas_terms::{Command, Refusal, Size};
 use std::process::Abort;
 
 const FAULTS: [(&str, Refusal); 22] = [
@@ -73,65 +73,6 @@ fn refused_lines(rt: HostRuntime) {
 fn order_of_refusals(rt: HostRuntime) {
     for (line, refusal) in ORDER {
         is_fault(&rt, line, refusal);
-    }
-}
-
-// What a line asks for: its word, its rectangle, and its number or 0.
-fn asked(rt: &(impl Abort + AllocGlobal), line: &str, size: Size) -> (Word, Option<Rect>, u32) {
-    match read_command(rt.alloc(), line, size) {
-        Ok(Request::Ask(command)) => parts_of(&command),
-        Ok(Request::Save) => (Word::Save, None, 0),
-        Ok(Request::Quit) => (Word::Quit, None, 0),
-        Err(refusal) => panic!(rt; "{line}: {refusal:?}"),
-    }
-}
-
-#[test]
-fn rectangles_are_read(rt: HostRuntime) {
-    let size = size(&rt);
-    for (line, word, (x, y, w, h), period) in [
-        ("put 1 2 3 4", Word::Put, (1, 2, 3, 4), 0),
-        ("  put 0000000000  0 1   1  ", Word::Put, (0, 0, 1, 1), 0),
-        ("erase 1 2 3 4", Word::Erase, (1, 2, 3, 4), 0),
-        ("wall 0 20 64 1", Word::Wall, (0, 20, 64, 1), 0),
-        ("block 1 1 1 1", Word::Block, (1, 1, 1, 1), 0),
-        ("unwall 1 1 2 2", Word::Unwall, (1, 1, 2, 2), 0),
-        ("drain 63 63 1 1", Word::Drain, (63, 63, 1, 1), 0),
-        ("probe 0 0 64 64", Word::Probe, (0, 0, 64, 64), 0),
-        (
-            "source 10 11 1 2 65535",
-            Word::Source,
-            (10, 11, 1, 2),
-            65535,
-        ),
-    ] {
-        let area = Rect::within(size, x, y, w, h);
-        expect_that(&rt, area.is_some());
-        let wanted = (word, area, period);
-        expect_same(&rt, (line, asked(&rt, line, size)), (line, wanted));
-    }
-}
-
-#[test]
-fn other_requests_are_read(rt: HostRuntime) {
-    let size = size(&rt);
-    for (line, word, number) in [
-        ("unport", Word::Unport, 0),
-        ("step 4096", Word::Step, 4096),
-        ("back 1", Word::Back, 1),
-        ("back 0000000100", Word::Back, 100),
-        ("tally", Word::Tally, 0),
-        ("ledger", Word::Ledger, 0),
-        ("read 63", Word::Read, 63),
-        ("entry 0", Word::Entry, 0),
-        ("entry 65536", Word::Entry, 65536),
-        ("entry 4294967295", Word::Entry, 4_294_967_295),
-        ("save", Word::Save, 0),
-        ("quit", Word::Quit, 0),
-        (" quit ", Word::Quit, 0),
-    ] {
-        let wanted = (word, None, number);
-        expect_same(&rt, (line, asked(&rt, line, size)), (line, wanted));
     }
 }
 

@@ -2,10 +2,11 @@
 
 ghost use Rattle.std.specs.Prelude.{◌≤◌, length};
 
+use crate::commands::{command_of, print_entry, wide};
 use crate::expected::expect_same;
 use crate::reading::gives_row;
-use gas_talk::{Reply, ReplyPage, Request, read_command, reply_text};
-use gas_terms::{Answer, Entry, Ledger, Pair, Refusal, RowBits, Size, Sums, Tick};
+use gas_talk::{Reply, ReplyPage, reply_text};
+use gas_terms::{Answer, Ledger, Pair, Refusal, RowBits, Sums, Tick};
 use std::process::Abort;
 
 const LEAST: i64 = -9_223_372_036_854_775_808;
@@ -153,48 +154,6 @@ fn rows_in_replies(rt: HostRuntime) {
     is_answer(&rt, &mut page, row(&rt, &[]), "ROW \n");
 }
 
-// Prints the entry of a seat with the command of a line, for a lattice of 4,096 by 64.
-fn print_entry(rt: &(impl Abort + AllocGlobal), page: &mut ReplyPage, seat: u16, line: &str) {
-    let wide = Size::new(4096, 64).expect(rt, "a size");
-    match read_command(rt.alloc(), line, wide) {
-        Ok(Request::Ask(command)) => reply_text(
-            &Reply::Answered(Answer::EntryIs(Entry { seat, command })),
-            page,
-        ),
-        _ => panic!(rt; "{line}"),
-    }
-}
-
-const ENTRIES: [(&str, &str); 15] = [
-    ("put 0 0 1 1", "ENTRY 0 put 0 0 1 1\n"),
-    ("erase 1 2 3 4", "ENTRY 0 erase 1 2 3 4\n"),
-    ("wall 1 1 1 1", "ENTRY 0 wall 1 1 1 1\n"),
-    ("block 4095 63 1 1", "ENTRY 0 block 4095 63 1 1\n"),
-    ("unwall 0 0 4096 64", "ENTRY 0 unwall 0 0 4096 64\n"),
-    (
-        "source 10 20 30 40 65535",
-        "ENTRY 0 source 10 20 30 40 65535\n",
-    ),
-    (" drain  007 0 00000001 01 ", "ENTRY 0 drain 7 0 1 1\n"),
-    ("unport", "ENTRY 0 unport\n"),
-    ("step 4096", "ENTRY 0 step 4096\n"),
-    ("back 0100", "ENTRY 0 back 100\n"),
-    ("probe 0 0 8 8", "ENTRY 0 probe 0 0 8 8\n"),
-    ("tally", "ENTRY 0 tally\n"),
-    ("ledger", "ENTRY 0 ledger\n"),
-    ("read 63", "ENTRY 0 read 63\n"),
-    ("entry 4294967295", "ENTRY 0 entry 4294967295\n"),
-];
-
-#[test]
-fn entries_print_their_command(rt: HostRuntime) {
-    let mut page = ReplyPage::empty();
-    for (line, text) in ENTRIES {
-        print_entry(&rt, &mut page, 0, line);
-        expect_same(&rt, (line, page.text()), (line, text.as_bytes()));
-    }
-}
-
 fn prints_the_widest_row(rt: &(impl Abort + AllocGlobal), page: &mut ReplyPage) {
     reply_text(&Reply::Answered(row(rt, &[255; 512])), page);
     let text = page.text();
@@ -207,7 +166,7 @@ fn prints_the_widest_row(rt: &(impl Abort + AllocGlobal), page: &mut ReplyPage) 
 
 // The longest reply.
 fn prints_the_widest_entry(rt: &(impl Abort + AllocGlobal), page: &mut ReplyPage, line: &str) {
-    print_entry(rt, page, 65535, line);
+    print_entry(page, 65535, command_of(rt, line, wide(rt)));
     let text = page.text();
     let begins = text.starts_with(b"ENTRY 65535 row 63 ffff");
     expect_same(&rt, (text.len(), begins), (1044, true));
@@ -218,8 +177,11 @@ fn widest_row_is_read_and_printed(rt: HostRuntime) {
     let mut line = [b'F'; 1031];
     line[..7].copy_from_slice(b"row 63 ");
     let line = str::from_utf8(&line).expect(&rt, "text");
-    let wide = Size::new(4096, 64).expect(&rt, "a size");
-    expect_same(&rt, gives_row(&rt, wide, line, 63, &[255; 512]), Ok(true));
+    expect_same(
+        &rt,
+        gives_row(&rt, wide(&rt), line, 63, &[255; 512]),
+        Ok(true),
+    );
     let mut page = ReplyPage::empty();
     prints_the_widest_row(&rt, &mut page);
     prints_the_widest_entry(&rt, &mut page, line);

@@ -53,6 +53,9 @@ CHANGES = [name for name, command in COMMANDS.items() if 13 in command.refusals]
 """The commands that a journal has: those that a full one refuses."""
 RECTANGLES = [name for name, command in COMMANDS.items() if command.words.startswith("x y w h")]
 """The commands that begin with a rectangle."""
+SOLIDS: dict[str, tuple[Optional[bool], Optional[bool]]] = {
+    "wall": (True, None), "block": (None, True), "unwall": (False, False)}
+"""What commands make of the wall cells and the obstacle cells of a rectangle. None leaves them."""
 
 _WORDS = {"HEX": "[0-9a-f]+"}
 _CANONICAL = {name: re.compile(" ".join([name, *(

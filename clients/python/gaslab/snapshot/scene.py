@@ -1,7 +1,5 @@
 """Walls, obstacles and ports, replayed from the journal, since no command reads them."""
-import numpy
-
-from ..protocol.commands import MOST_PORTS, parse_change
+from ..protocol.commands import MOST_PORTS, SOLIDS, parse_change
 from ..protocol.errors import Strange
 from .files import Drain, Snapshot, Source
 
@@ -28,15 +26,11 @@ class Scene:
             self.drains.append(Drain(*numbers))
         elif word == "source":
             self.sources.append(Source(*numbers))
-        elif word in ("wall", "block", "unwall"):
-            self._edit(word, *numbers)
+        elif word in SOLIDS:
+            x, y, w, h = numbers
+            for cells, value in zip((self.walls, self.obstacles), SOLIDS[word]):
+                if value is not None:
+                    cells[y:y + h, x:x + w] = value
         if not word or max(len(self.drains), len(self.sources)) > MOST_PORTS:
             raise Strange("no change of a gas of {} by {} with at most 16 sources and drains: {!r}"
                           .format(*self.size, command[:80]))
-
-    def _edit(self, word: str, x: int, y: int, w: int, h: int) -> None:
-        area = numpy.s_[y:y + h, x:x + w]
-        if word != "block":
-            self.walls[area] = word == "wall"
-        if word != "wall":
-            self.obstacles[area] = word == "block"

@@ -3,15 +3,13 @@ import { TEXTS, told } from "./texts.js";
 import { state } from "./state.js";
 import { around, cover } from "./shapes.js";
 import { hexOf } from "./gas.js";
-import { Lab, fromSnapshot } from "./engine.js";
+import { Lab, PORTS, SOLIDS, fromSnapshot } from "./engine.js";
 import { view } from "./view.js";
 import { snapshotOf } from "./files.js";
 
 const T = TEXTS.edits;
 
-const MOST = 100, CELLS = ["particles"], SOLIDS = ["walls", "obstacles"], PORTS = [];
-/** The planes that a command can change. Others change particles. */
-const CHANGES = { wall: SOLIDS, block: SOLIDS, unwall: SOLIDS, source: PORTS, drain: PORTS, unport: PORTS };
+const MOST = 100;
 const textOf = (word) => (rect) => `${word} ${rect.join(" ")}`;
 
 class Edits {
@@ -72,10 +70,13 @@ class Edits {
     }
     const { open, open: { before } } = this;
     open.lines.push(line);
-    const planes = CHANGES[word] ?? CELLS;
-    for (const name of planes) before[name] ??= gas[name].slice();
-    if (planes === PORTS) before.ports ??= { drains, sources };
-    else open.rect = around(word === "row" ? [0, numbers[0], width, 1] : numbers, open.rect);
+    if (Object.hasOwn(PORTS, word)) {
+      before.ports ??= { drains, sources };
+      return;
+    }
+    for (const name of Object.hasOwn(SOLIDS, word) ? ["walls", "obstacles"] : ["particles"])
+      before[name] ??= gas[name].slice();
+    open.rect = around(word === "row" ? [0, numbers[0], width, 1] : numbers, open.rect);
   }
 
   label() {

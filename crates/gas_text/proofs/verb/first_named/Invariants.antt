@@ -1,7 +1,7 @@
 use Rattle.std.proofs.Common.{◌≡◌, drop}
 use Rattle.std.specs.List.{find}
 use Rattle.std.specs.Str.{bytes_eq}
-use Rattle.gas_text.specs.Verbs.{verb_word}
+use Rattle.gas_text.specs.Requests.{verb_word}
 use Rattle.gas_text.proofs.verb.first_named.Given as goal
 
 -- no verb so far has the word

@@ -23,8 +23,8 @@ pub with_moved-self-requires : goal.with_moved-self-requires
 with_moved-self-requires g c =
     let b = books_of c.args.self.now in
     let still : is_move c.args.command.now ≡ false = search rules in
-    let same = edit_booked b.gas c.edited-moved.new.gas b.ledger c.edited-moved.result c.args.command.now still c.edited-moved.ensures.gas c.edited-moved.ensures.moved in
-    let fits = edit_fits (pair c.edited-moved.new.gas (with_moved b.ledger c.edited-moved.result)) _ same (c.requires.fits c.args.command.now (few_changes _ c.args.command.now c.requires.in_order)) in
+    let same = edit_booked b.gas c.edit-moved.new.self b.ledger c.edit-moved.result c.args.command.now still c.edit-moved.ensures.gas c.edit-moved.ensures.moved in
+    let fits = edit_fits (pair c.edit-moved.new.self (with_moved b.ledger c.edit-moved.result)) _ same (c.requires.fits c.args.command.now (few_changes _ c.args.command.now c.requires.in_order)) in
     record { injected = fits.injected; drained = fits.drained }
 
 pub returns-in_default : goal.returns-in_default
@@ -32,6 +32,6 @@ returns-in_default g c =
     let b = books_of c.args.self.now in
     let still : is_move c.args.command.now ≡ false = search rules in
     record {
-      booked = ap (pair c.edited-moved.new.gas) c.with_moved-self.ensures
-          ∙ edit_booked b.gas c.edited-moved.new.gas b.ledger c.edited-moved.result c.args.command.now still c.edited-moved.ensures.gas c.edited-moved.ensures.moved;
+      booked = ap (pair c.edit-moved.new.self) c.with_moved-self.ensures
+          ∙ edit_booked b.gas c.edit-moved.new.self b.ledger c.edit-moved.result c.args.command.now still c.edit-moved.ensures.gas c.edit-moved.ensures.moved;
     }

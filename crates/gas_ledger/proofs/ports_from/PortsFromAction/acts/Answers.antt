@@ -1,5 +1,0 @@
-use Rattle.std.proofs.Common.{rules}
-use Rattle.gas_ledger.proofs.ports_from.PortsFromAction.acts.Goals as goal
-
-pub returns : goal.returns
-returns c = search rules

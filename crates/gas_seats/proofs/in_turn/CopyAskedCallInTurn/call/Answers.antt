@@ -1,5 +1,0 @@
-use Rattle.std.proofs.Common.{rules}
-use Rattle.gas_seats.proofs.in_turn.CopyAskedCallInTurn.call.Goals as goal
-
-pub returns-clause-does : goal.returns-clause-does
-returns-clause-does g c = search rules
