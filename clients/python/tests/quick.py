@@ -1,8 +1,10 @@
-"""Tests in several processes, to which their classes are dealt. Warnings are errors there. The last line counts tests.
+"""Tests in several processes, to which their classes are dealt. Warnings are errors there.
 
-    /usr/bin/python3 -m tests.quick        those without a browser, a notebook or an installation: under 20 seconds on four
-                                           idle cores
-    /usr/bin/python3 -m tests.quick all    all, but for those of the page in a browser, and the notebook
+    /usr/bin/python3 -m tests.quick      without a browser, a notebook or an installation: under 20 seconds
+                                         on four idle cores
+    /usr/bin/python3 -m tests.quick all  all but the notebook and those of the page in a browser: a minute
+
+The last line counts tests.
 """
 import importlib
 import os
