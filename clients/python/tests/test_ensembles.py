@@ -22,7 +22,7 @@ import signal, sys
 from gaslab import ensemble
 signal.signal(signal.SIGINT, signal.default_int_handler)
 def f(lab, seed):
-    print("begun", flush=True)
+    print("begun\\n", end="", flush=True)  # in one write, so that no other comes between
     while True:
         lab.step(4096)
 try:
